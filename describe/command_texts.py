@@ -27,10 +27,13 @@ PURPOSES = {
 #: The same for what help says of each option, except those of `show` that add rows.
 OPTIONS = {
     "all": ("file_words.rt", r"const ALL: &str =\s+"),
+    "functions": ("file_words.rt", r"const FUNCTIONS: &str =\s+"),
+    "no-digest": ("file_words.rt", r"const NO_DIGEST: &str =\s+"),
     "color": ("file_words.rt", r"const COLOR: &str =\s+"),
     "most": ("file_words.rt", r"const MOST: &str =\s+"),
     "address": ("at_words.rt", r"const ADDRESS: &str =\s+"),
     "file": ("at_words.rt", r"const OFFSET: &str =\s+"),
+    "check-sum": ("rebase_words.rt", r"const CHECK_SUM: &str =\s+"),
     "known": ("map_words.rt", r"const KNOWN: &str =\s+"),
     "unbound": ("map_words.rt", r"const UNBOUND: &str =\s+"),
     "window": ("map_words.rt", r"const WINDOW: &str =\s+"),
@@ -146,7 +149,7 @@ def _roff(text: str) -> str:
 
 def _roff_usage(word: str) -> str:
     """A word of usage: options are bold, values and arguments in italics."""
-    return re.sub(r"--[a-z]+|[A-Z]+(?:=[A-Z]+)?", lambda it: _bold(it[0]) if it[0][0] == "-" else f"\\fI{it[0]}\\fP", word)
+    return re.sub(r"--[a-z-]+|[A-Z]+(?:=[A-Z]+)?", lambda it: _bold(it[0]) if it[0][0] == "-" else f"\\fI{it[0]}\\fP", word)
 
 
 def _synopsis(commands: Commands) -> List[str]:

@@ -51,7 +51,7 @@ class Commands:
         """Whether each option of a command is described, with the same value."""
         words = [it.words for it in self.of("word")]
         for it in self.of("command"):
-            for option in re.findall(r"--(\w+(?: [A-Z]+)?)", it.rows.get("options", "")):
+            for option in re.findall(r"--([\w-]+(?: [A-Z]+)?)", it.rows.get("options", "")):
                 if option not in words:
                     raise Mistake(f"command {it.words} has the option {option}, which no word describes")
 
@@ -93,7 +93,8 @@ class Commands:
         """What help says of an option of a command."""
         if command.name() == "show" and option == "all":
             return self.all_help
-        return next(it.rows["help"] for kind in ("option", "word") for it in self.of(kind) if it.name() == option)
+        kinds = ("option", "word") if command.name() == "show" else ("word",)
+        return next(it.rows["help"] for kind in kinds for it in self.of(kind) if it.name() == option)
 
     def usage(self, command: Item) -> List[str]:
         """The options of a command in usage."""

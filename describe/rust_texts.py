@@ -8,6 +8,8 @@ from description import Call, Description, Field, Parameter, Record, Values
 from regions import wrapped
 
 WIDTH = 120
+#: The width of a struct's values that rustfmt leaves on one line.
+SMALL = 22
 ITEMS = {"bytes": "*const u8", "state": "*mut c_void", "char": "c_char", "int": "c_int"}
 
 LAYOUT = """\
@@ -96,7 +98,14 @@ def _derived(description: Description, record: Record) -> str:
         return "Debug"
     if description.has_text(record) or any(it.type == "bytes" for it in record.fields):
         return "Clone, Copy, Debug"
+    if _has_long_array(record):
+        return "Clone, Copy, Debug, PartialEq, Eq, Hash"
     return "Clone, Copy, Debug, Default, PartialEq, Eq, Hash"
+
+
+def _has_long_array(record: Record) -> bool:
+    """Whether it has an array with more items than those for which Rust has a default."""
+    return any(it.count() > 32 for it in record.fields)
 
 
 def _struct(description: Description, record: Record) -> List[str]:
@@ -116,10 +125,13 @@ def _blank(description: Description, it: Field) -> str:
 
 
 def _none(description: Description, record: Record) -> List[str]:
-    """The constant of a record with texts, whose pointers may not be null before a call."""
+    """The constant of a record with texts, whose pointers may not be null before a call, or without a default of Rust."""
     name = record.camel()
-    fields = [f"        {it.name}: {_blank(description, it)}," for it in record.fields]
+    values = [f"{it.name}: {_blank(description, it)}" for it in record.fields]
     about = "    /// Its value before a call sets it."
+    if len(", ".join(values)) <= SMALL:
+        return ["", f"impl {name} {{", about, f"    pub const NONE: {name} = {name} {{ {', '.join(values)} }};", "}"]
+    fields = [f"        {it}," for it in values]
     return ["", f"impl {name} {{", about, f"    pub const NONE: {name} = {name} {{", *fields, "    };", "}"]
 
 
@@ -131,12 +143,12 @@ def _filled(description: Description) -> List[str]:
 
 
 def records(description: Description) -> List[str]:
-    """All records, and the constants of those with texts that a call fills."""
+    """All records, and the constants of those with texts, or without a default, that a call fills."""
     filled = _filled(description)
     lines: List[str] = []
     for record in description.records.values():
         lines += ([""] if lines else []) + _struct(description, record)
-        if record.name in filled and description.has_text(record):
+        if record.name in filled and (description.has_text(record) or _has_long_array(record)):
             lines += _none(description, record)
     return lines
 

@@ -186,7 +186,7 @@ def options_of(described: Commands, command: Item) -> Iterator[Option]:
     """The options of a command, in the order of its usage."""
     values = {it.name(): it.rows.get("values", "") for it in described.of("word")}
     for usage in described.usage(command):
-        for name, value in re.findall(r"--(\w+)(?: ([A-Z]+))?", usage):
+        for name, value in re.findall(r"--([\w-]+)(?: ([A-Z]+))?", usage):
             yield Option(name, described.help_of(command, name), value or None, values.get(name, ""))
     yield HELP
 

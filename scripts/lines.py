@@ -1,13 +1,14 @@
 #!/usr/bin/env python3
 """Makes the lines of `petool json` for images apart from petool, and compares them with stored ones, byte for byte.
 
-    lines.py [--all] FILE...      prints the lines of images, with `--all` also with the tables that the profile leaves out
+    lines.py [OPTION...] FILE...  prints the lines of images, with the options `--all`, `--functions` and `--no-digest` of `petool json`
     lines.py --cases FOLDER DATA  compares the cases `json` of images in FOLDER/views, of files in DATA, with FOLDER/views.answers
 
 The files are read as scripts/pages.py reads them. A line has the members of docs/JSON.md, except `kind` and `values`, which
 test_values.py compares. `--cases` tells each difference, counts at last, and ends with status 1 where something differs.
 """
 
+import hashlib
 import json
 import os
 import re
@@ -20,6 +21,7 @@ from pages import changed, fault_words, read  # noqa: E402
 from pages_names import DIRECTORIES, DLL_FLAGS, IMAGE_FLAGS, MACHINES, SECTION_FLAGS, SUBSYSTEMS  # noqa: E402
 from pages_reader import Headers, Image, Refused, is_object, uint  # noqa: E402
 from pages_tables import BOUND, CLR, DEBUG, EXCEPTION, LOAD, LOAD_FIELDS, TLS, TYPES, Tables  # noqa: E402
+from pages_trust import ALGORITHMS, Trust, common_name, import_hash, overlay, signed_digest, signers  # noqa: E402
 
 COFF = "machine number_of_sections time_date_stamp pointer_to_symbol_table number_of_symbols size_of_optional_header characteristics"
 OPTIONAL = """magic major_linker_version minor_linker_version size_of_code size_of_initialized_data size_of_uninitialized_data
@@ -39,8 +41,10 @@ CLR_FIELDS = "cb major_runtime_version minor_runtime_version meta_data flags ent
 CLR_DIRECTORIES = "resources strong_name_signature code_manager_table vtable_fixups export_address_table_jumps managed_native_header"
 #: The fields of structures that are strings, since they are addresses or of their size.
 ADDRESSES = {name for kind, name in (field.split(":") for field in LOAD_FIELDS) if kind == "a"}
-#: The findings of debug data at a file offset, which no line tells.
-BY_OFFSET = (103, 105)
+#: The options before FILE.
+OPTIONS = ("--all", "--functions", "--no-digest")
+#: The types of certificates, with their names in "PE Format".
+CERTIFICATES = {1: "X509", 2: "PKCS_SIGNED_DATA", 3: "RESERVED_1", 4: "TS_STACK_SIGNED"}
 FLAGS = {"characteristics": IMAGE_FLAGS, "dll_characteristics": DLL_FLAGS}
 NAMES = {"machine": MACHINES, "subsystem": SUBSYSTEMS, "type": TYPES}
 
@@ -161,8 +165,15 @@ def load_member(tables):
     return {"load_configuration": {"rva": rva} | fields} if rva else {}
 
 
+def bound_row(tables, record):
+    """A record with the name of its module, if a zero byte ends it in 256 bytes."""
+    rva = tables.extent(BOUND)[0] + record[1]
+    name, end, _ = tables.held(rva)[:256].partition(b"\0") if rva < tables.size else (b"", b"", b"")
+    return dict(zip(BOUND_IMPORT.split(), record)) | (named("module", name) if end else {})
+
+
 def bound_member(tables):
-    rows = [dict(zip(BOUND_IMPORT.split(), record)) for _, record in tables.bound()[0]]
+    rows = [bound_row(tables, record) for _, record in tables.bound()[0]]
     return {"bound_imports": rows} if tables.extent(BOUND)[0] else {}
 
 
@@ -185,24 +196,89 @@ def clr_member(tables):
     return {"clr": row} if rva else {}
 
 
-def findings_member(tables):
-    rows = [fault_member(Refused(number, "rva", at)) for number, at in tables.findings if number not in BY_OFFSET]
-    return {"findings": rows} if rows else {}
+def function_members(tables, is_listed):
+    functions = tables.functions()
+    if not tables.extent(EXCEPTION)[0] or functions is None:
+        return {}
+    names = ("begin", "end", "unwind") if tables.machine == 0x8664 else ("begin", "unwind")
+    rows = [dict(zip(names, record)) for _, record in functions]
+    return {"function_count": len(rows), **({"functions": rows} if is_listed else {})}
 
 
-def record_members(tables):
+def record_members(tables, is_listed):
     """The tables that the profile leaves out."""
     rows = {}
     entries = tables.records(DEBUG, "<IIHHIIII")
     if tables.extent(DEBUG)[0]:
         rows["debug"] = [members(DEBUG_ENTRY.split(), record, flags=False) for _, record in entries]
     rows |= pdb_member(tables, entries)
-    functions = tables.functions()
-    if tables.extent(EXCEPTION)[0] and functions is not None:
-        rows["function_count"] = len(functions)
-    for member in (tls_member, load_member, bound_member, clr_member, findings_member):
+    rows |= function_members(tables, is_listed)
+    for member in (tls_member, load_member, bound_member, clr_member):
         rows |= member(tables)
     return rows
+
+
+def signer_row(signer):
+    subject, issuer, serial = signer
+    names = (("subject", common_name(subject)), ("issuer", common_name(issuer)))
+    row = {"serial_hex": serial.hex()}
+    for key, name in names:
+        row |= {} if name is None else named(key, name)
+    return row
+
+
+def signature_members(trust, data, has_digests):
+    """What an entry signs, and the certificates that it has."""
+    row, signed, message = {}, signed_digest(data), trust.message()
+    if signed:
+        name, algorithm = ALGORITHMS.get(signed[0], (None, None))
+        row |= {"digest_algorithm": name} if name else {}
+        row |= {"digest_hex": signed[1].hex()}
+        if name and has_digests and message is not None:
+            row |= {"fits": hashlib.new(algorithm, message).digest() == signed[1]}
+    return row | {"signers": [signer_row(signer) for signer in signers(data)]}
+
+
+def certificate_row(trust, entry, has_digests):
+    at, length, revision, kind, data = entry
+    row = {"offset": at, "length": length, "revision": revision, "type": kind}
+    row |= {"type_name": CERTIFICATES[kind]} if kind in CERTIFICATES else {}
+    return row | (signature_members(trust, data, has_digests) if kind == 2 else {})
+
+
+def overlay_member(trust):
+    """What comes after the headers and the raw data of all sections."""
+    found = overlay(trust)
+    if not found:
+        return {}
+    end, size, words = found
+    words = "NSIS installer data" if "NSIS" in words else re.sub("^(the|an?) ", "", words)
+    return {"overlay": {"offset": end, "size": size, "begins_with": words}}
+
+
+def rich_member(trust):
+    if not trust.rich:
+        return {}
+    at, key, pairs = trust.rich
+    rows = [{"product": tool >> 16, "build": tool & 0xFFFF, "count": count} for tool, count in pairs]
+    return {"rich": {"offset": at, "key": key, "fits": key == trust.rich_sum(), "pairs": rows}}
+
+
+def trust_members(trust, has_digests):
+    """What the file says of itself."""
+    rows, message = {}, trust.message()
+    if has_digests:
+        rows["check_sum_computed"] = trust.check_sum()
+        rows |= {} if message is None else {"authenticode_sha256_hex": hashlib.sha256(message).hexdigest()}
+    if trust.table and trust.table[1]:
+        rows["certificates"] = [certificate_row(trust, entry, has_digests) for entry in trust.certificates]
+    return rows | overlay_member(trust) | rich_member(trust)
+
+
+def findings_member(tables, trust):
+    rows = [fault_member(Refused(number, "rva", at)) for number, at in tables.findings]
+    rows += [fault_member(Refused(number, "file", at)) for number, at in trust.findings]
+    return {"findings": rows} if rows else {}
 
 
 def fault_member(fault):
@@ -210,8 +286,8 @@ def fault_member(fault):
     return {"number": fault.number, "image": 0, "place": {fault.kind: fault.place}, "subject": subject, "rule": rule}
 
 
-def line_of(name, file, is_all):
-    """The line of an image, with the tables that the profile leaves out if they are wanted."""
+def line_of(name, file, options):
+    """The line of an image, with what is told beyond its profile if that is wanted."""
     fault, row, image = None, {}, None
     try:
         headers = Headers(file)
@@ -222,8 +298,12 @@ def line_of(name, file, is_all):
         fault = refused
     if image:
         row |= table_members(image)
-    if fault is None and is_all:
-        row |= record_members(Tables(image, file))
+    if fault is None and ("--all" in options or "--functions" in options):
+        tables, trust = Tables(image, file), Trust(file, headers)
+        row |= record_members(tables, "--functions" in options)
+        row |= trust_members(trust, "--no-digest" not in options)
+        row |= {"imphash": import_hash(image.imports)} if image.imports else {}
+        row |= findings_member(tables, trust)
     begin = {"schema": 1, **named("file", os.fsencode(name)), "accepted": fault is None}
     begin |= {"fault": fault_member(fault)} if fault else {}
     return json.dumps(begin | row, ensure_ascii=False, separators=(",", ":"))
@@ -235,10 +315,10 @@ def same(line, other):
     return re.sub(r'("rule":"[^"]*"),"values":{[^}]*}', r"\1", line) == other
 
 
-def without_all(words):
-    """Words without the option `--all` before them, and whether it is there."""
-    is_all = words[:1] == ["--all"]
-    return words[is_all:], is_all
+def parted(words):
+    """Words without the options before them, and these."""
+    count = next((k for k, word in enumerate(words) if word not in OPTIONS), len(words))
+    return words[count:], words[:count]
 
 
 def compare_cases(folder, data):
@@ -247,12 +327,12 @@ def compare_cases(folder, data):
     count = differing = 0
     for case, answer in stored.items():
         kind, *words = case.split(" ")
-        words, is_all = without_all(words)
+        words, options = parted(words)
         file = changed(data, words) if kind == "json" else b""
         if kind != "json" or is_object(file):
             continue
         count += 1
-        wanted, line = line_of(words[0], file, is_all), answer.split("\n")[0]
+        wanted, line = line_of(words[0], file, options), answer.split("\n")[0]
         if not same(line, wanted):
             differing += 1
             print(f"{case}: differs\n  petool {line}\n  script {wanted}")
@@ -263,9 +343,9 @@ def compare_cases(folder, data):
 def main(words):
     if words[:1] == ["--cases"]:
         return 1 if compare_cases(words[1], words[2]) else 0
-    paths, is_all = without_all(words)
+    paths, options = parted(words)
     for path in paths:
-        print(line_of(path, read(path), is_all))
+        print(line_of(path, read(path), options))
     return 0
 
 

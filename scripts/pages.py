@@ -317,7 +317,7 @@ def image_page(file, wanted):
     elif headers:
         rows += section_rows(headers.sections)
     if trust:
-        rows += pages_trust.trust_rows(trust, shown)
+        rows += pages_trust.trust_rows(trust, shown, image.imports if image else None)
     rows += pages_tables.finding_rows(findings, trust.findings if trust else [], fault_words)
     return fault, kind, rows
 
@@ -565,7 +565,19 @@ def in_section(sections, word, first, size_of):
     return sections[index], index, offset
 
 
-def rva_of(headers, options, place):
+def unlaid_words(file, headers, offset):
+    """What of a file that is not laid out has an offset, or None."""
+    trust, found = pages_trust.Trust(file, headers), []
+    found += [(at, length, f"certificate {k}") for k, (at, length, *_) in enumerate(trust.certificates)]
+    found += [(*trust.table, "certificate table")] if trust.table else []
+    found += [(headers.symbols, 18 * headers.symbol_count, "symbol table")]
+    end = max([headers.headers, *(it.pointer + it.raw_size for it in headers.sections if it.pointer)])
+    found += [(end, len(file), "overlay")]
+    named = [f"file 0x{offset:x}  {words} +0x{offset - at:x}" for at, size, words in found if at <= offset < at + size]
+    return named[0] if named and offset < len(file) else None
+
+
+def rva_of(file, headers, options, place):
     """The RVA of a place: an RVA itself, an address of the image at its ImageBase, a file offset, or an offset in a section."""
     if "+" in place:
         section, _, offset = in_section(headers.sections, place, 0, lambda it: it.extent)
@@ -576,7 +588,8 @@ def rva_of(headers, options, place):
         held = (it for it in headers.sections if it.pointer <= place < it.pointer + it.in_file)
         rva = next((it.rva + place - it.pointer for it in held), -1)
     if not 0 <= rva < headers.size:
-        raise NoPlace("the place is outside the image")
+        words = unlaid_words(file, headers, place) if "file" in options else None
+        raise NoPlace(words or "the place is outside the image")
     return rva
 
 
@@ -587,7 +600,7 @@ def where(headers, rva, offset, words):
 
 def image_place(file, image, options, place):
     """What `at` prints for a place of an image that is laid out."""
-    rva = rva_of(image.headers, options, place)
+    rva = rva_of(file, image.headers, options, place)
     (words, offset), piece = place_of(image, rva), image.piece(rva)
     words += " " + permissions(piece[2].flags) if piece and piece[2] else ""
     slots = [(module, key) for module, slot, key in image.imports or [] if slot <= rva < slot + (8 if image.wide else 4)]
@@ -599,7 +612,7 @@ def image_place(file, image, options, place):
 
 def place_by_headers(file, headers, options, place):
     """The same of an image that is not, since a section breaks a rule."""
-    rva = rva_of(headers, options, place)
+    rva = rva_of(file, headers, options, place)
     held = [it for it in headers.sections if it.rva <= rva < it.end] if rva >= headers.headers else []
     if "+" in place:
         held = [in_section(headers.sections, place, 0, lambda it: it.extent)[0]]

@@ -5,8 +5,13 @@ RFC 2315, RFC 5280 and Microsoft's "Windows Authenticode Portable Executable Sig
 """
 
 import hashlib
+import re
 import struct
 
+try:
+    import ordlookup
+except ImportError:
+    ordlookup = None
 from pages_reader import uint
 
 CERTIFICATE = 4
@@ -18,6 +23,14 @@ SIGNED_DATA, INDIRECT_DATA = bytes.fromhex("2a864886f70d010702"), bytes.fromhex(
 COMMON_NAME = bytes.fromhex("550403")
 ALGORITHMS = {bytes.fromhex("2b0e03021a"): ("SHA-1", "sha1"), bytes.fromhex("608648016503040201"): ("SHA-256", "sha256"),
               bytes.fromhex("608648016503040202"): ("SHA-384", "sha384"), bytes.fromhex("608648016503040203"): ("SHA-512", "sha512")}
+
+
+#: What an overlay begins with, if these bytes are at an offset of it.
+OVERLAYS = ((4, b"\xef\xbe\xad\xdeNullsoftInst", "the data of an NSIS installer"), (0, b"7z\xbc\xaf\x27\x1c", "a 7-Zip archive"),
+            (0, b";!@Install@!", "a 7-Zip archive"), (0, b"PK\3\4", "a ZIP archive"), (0, b"Rar!\x1a\7", "a RAR archive"),
+            (0, b"MSCF", "a cabinet"), (0, b"\xd0\xcf\x11\xe0\xa1\xb1\x1a\xe1", "a compound file"), (0, b"MZ", "an executable file"))
+#: The names of ordinals by module, which come with pefile; without it, the hash of an image that imports by such an ordinal is not known.
+NAMED = ordlookup.ords if ordlookup else dict.fromkeys((b"oleaut32.dll", b"ws2_32.dll", b"wsock32.dll"))
 
 
 class Unread(Exception):
@@ -187,6 +200,51 @@ def counted(count, one):
     return f"{count:,} {one}" + ("" if count == 1 else "s")
 
 
+def overlay(trust):
+    """What is behind the end of the file by its headers: where, how many bytes, and what they begin with, or None."""
+    headers, file = trust.headers, trust.file
+    end = max([headers.headers, *(it.pointer + it.raw_size for it in headers.sections if it.pointer)])
+    if len(file) <= end:
+        return None
+    if trust.table and trust.table[1] and trust.table[0] == end:
+        words = "the certificate table"
+    elif headers.symbols == end and headers.symbol_count:
+        words = "the symbol table"
+    else:
+        words = next((words for at, mark, words in OVERLAYS if file[end + at : end + at + len(mark)] == mark), "other data")
+    return end, len(file) - end, words
+
+
+def overlay_rows(trust):
+    found = overlay(trust)
+    if found:
+        yield f"  Overlay      {counted(found[1], 'byte')} at file 0x{found[0]:x}, begins with {found[2]}"
+
+
+def known(name, allowed):
+    return name[:512].lower() if re.fullmatch(rb"[A-Za-z0-9" + re.escape(allowed) + rb"]*", name[:512], re.S) else b"*invalid*"
+
+
+def import_hash(imports):
+    """The import hash, None without imports, or "" if there is an import by ordinal whose name is not known here."""
+    texts, is_known = [], True
+    for module, _, key in imports or ():
+        module = known(module, b"!#$%&'()-@^_`{}~+,.;=[]\\/")
+        names = NAMED.get(module, {})
+        is_known = is_known and not (names is None and isinstance(key, int))
+        symbol = (names or {}).get(key, b"ord%d" % key).lower() if isinstance(key, int) else known(key, b"._?@$()<>")
+        texts.append(re.sub(rb"\.(dll|ocx|sys)\Z", b"", module) + b"." + symbol)
+    if not texts:
+        return None
+    return hashlib.md5(b",".join(texts)).hexdigest() if is_known else ""
+
+
+def import_hash_rows(imports):
+    found = import_hash(imports)
+    if found is not None:
+        yield f"  Import hash  {found or 'of named ordinals'}"
+
+
 def signature_rows(trust, data, shown):
     found = signed_digest(data)
     if found is None:
@@ -203,7 +261,7 @@ def signature_rows(trust, data, shown):
         yield f"    of {names[0]}, issued by {names[1]}, serial number 0x{serial[:64].hex()}"
 
 
-def trust_rows(trust, shown):
+def trust_rows(trust, shown, imports):
     """The rows of the part."""
     computed, field = trust.check_sum(), trust.headers.checksum
     words = "right" if computed == field else f"{'wrong' if field else 'not set'}, and 0x{computed:08x} would be right"
@@ -212,9 +270,11 @@ def trust_rows(trust, shown):
         yield f"  Certificate  {TYPES.get(kind, f'type 0x{kind:04x}')}, revision 0x{revision:04x}, {counted(length, 'byte')} at file 0x{at:x}"
         if kind == 2:
             yield from signature_rows(trust, data, shown)
+    yield from overlay_rows(trust)
     if trust.rich:
         at, key, pairs = trust.rich
         words = "right" if key == trust.rich_sum() else "wrong"
         yield f"  Rich header  {counted(len(pairs), 'tool')} at file 0x{at:x}, key 0x{key:08x}, {words}"
         for tool, count in pairs:
             yield f"    product 0x{tool >> 16:04x} build {tool & 0xFFFF}, {counted(count, 'object')}"
+    yield from import_hash_rows(imports)

@@ -63,7 +63,8 @@ enum {
     PETOOL_SMALL = 4,    /* too little room: the count says how much is needed */
     PETOOL_ARGUMENT = 5, /* an argument has a value that it may not have; nothing was done */
     PETOOL_CLOSED = 6,   /* the image or the space is not open */
-    PETOOL_LARGE = 7     /* the images of the set have more bytes than the caller allows; nothing was mapped */
+    PETOOL_LARGE = 7,    /* the images of the set have more bytes than the caller allows; nothing was mapped */
+    PETOOL_SHARED = 8    /* another handle has the space, so it is not moved */
 };
 /* end of describe/records.txt */
 
@@ -339,8 +340,9 @@ PETOOL_WARN_UNUSED uint32_t petool_import_at(const uint8_t *file, size_t len, ui
  * the file holds of the table is read. A table ends where its Size does, or, before that, the bytes that the file holds from its
  * RVA on in one run: what is in zero fill has no rows. */
 
-/* All findings of these tables, by table in the order of their numbers, and of each table those of its directory before those of
- * its records; of image 0. OK; SMALL; FAULT, with one of 1 to 15; or MEMORY, but only if there is a finding. */
+/* All findings, of these tables and those of petool_trust_findings, by table in the order of their numbers, and of each table those
+ * of its directory before those of its records; of image 0. OK; SMALL; FAULT, with one of 1 to 15; or MEMORY, but only if one of
+ * these tables has a finding. */
 PETOOL_WARN_UNUSED uint32_t petool_findings(const uint8_t *file, size_t len, petool_fault *rows, size_t room, size_t *count,
                                             petool_fault *fault);
 
@@ -460,6 +462,168 @@ PETOOL_WARN_UNUSED uint32_t petool_bound_imports(const uint8_t *file, size_t len
 PETOOL_WARN_UNUSED uint32_t petool_clr(const uint8_t *file, size_t len, petool_field *rows, size_t room, size_t *count,
                                        petool_fault *fault);
 
+/* ---- an image: what its file says of itself ---- */
+
+/* These calls need the headers alone, so that they answer also for an image whose sections or tables have faults; each reports
+ * one of 1 to 12, and none allocates. Nothing here says whether a signature is valid, or anybody to be trusted. */
+
+/* from describe/records.txt: check_sums */
+typedef struct petool_check_sums {
+    uint32_t written;  /* what the field holds; 0 if it was not set */
+    uint32_t computed; /* what it is to hold */
+} petool_check_sums;
+/* end of describe/records.txt */
+
+/* CheckSum. OK; or FAULT, with one of 1 to 12. */
+PETOOL_WARN_UNUSED uint32_t petool_check_sum(const uint8_t *file, size_t len, petool_check_sums *sum, petool_fault *fault);
+
+/* from describe/records.txt: certificate */
+typedef struct petool_certificate {
+    uint64_t offset;         /* the file offset of its header of 8 bytes */
+    petool_text bytes;       /* its content, behind that header */
+    uint32_t length;         /* its length, with the header */
+    uint16_t revision, kind; /* kind 2: bytes are a signature (PKCS #7) */
+} petool_certificate;
+/* end of describe/records.txt */
+
+static inline void petool_certificates_init(petool_certificate *rows, size_t count)
+{
+    petool_certificate none = {0, PETOOL_NONE, 0, 0, 0};
+    for (size_t k = 0; k < count; k++)
+        rows[k] = none;
+}
+
+/* The entries of the certificate table, in table order: those that are whole in the directory's Size and in the file, up to the
+ * first that is not. OK; SMALL; or FAULT, with one of 1 to 12. The rows must be initialized before. */
+PETOOL_WARN_UNUSED uint32_t petool_certificates(const uint8_t *file, size_t len, petool_certificate *rows, size_t room,
+                                                size_t *count, petool_fault *fault);
+
+/* from describe/records.txt: digests, fits, signature */
+enum {
+    PETOOL_DIGEST_NONE = 0,   /* absent: none can be read */
+    PETOOL_DIGEST_SHA1 = 1,   /* of SHA-1, with 20 bytes */
+    PETOOL_DIGEST_SHA256 = 2, /* of SHA-256, with 32 bytes */
+    PETOOL_DIGEST_SHA384 = 3, /* of SHA-384, with 48 bytes */
+    PETOOL_DIGEST_SHA512 = 4, /* of SHA-512, with 64 bytes */
+    PETOOL_DIGEST_OTHER = 5   /* of an algorithm that is not computed here */
+};
+
+enum {
+    PETOOL_FIT_NO = 0,     /* that of other bytes */
+    PETOOL_FIT_YES = 1,    /* that of the file */
+    PETOOL_FIT_UNKNOWN = 2 /* not compared: it is absent, not computed here, or the file has no bytes that a signature signs */
+};
+
+typedef struct petool_signature {
+    uint64_t offset;    /* the file offset of its certificate */
+    petool_text bytes;  /* the signature, for petool_signers */
+    petool_text digest; /* the digest that it signs; empty for PETOOL_DIGEST_NONE */
+    uint32_t algorithm; /* a PETOOL_DIGEST: the algorithm of the digest */
+    uint32_t fits;      /* a PETOOL_FIT: whether the digest is that of the file */
+} petool_signature;
+/* end of describe/records.txt */
+
+static inline void petool_signatures_init(petool_signature *rows, size_t count)
+{
+    petool_signature none = {0, PETOOL_NONE, PETOOL_NONE, 0, 0};
+    for (size_t k = 0; k < count; k++)
+        rows[k] = none;
+}
+
+/* The signatures (Authenticode): the certificates of type 2, in table order, each with the digest that it signs. A digest of the
+ * file is computed once for each algorithm that a row needs, and none for a call without room. OK; SMALL; or FAULT, with one of
+ * 1 to 12. The rows must be initialized before. */
+PETOOL_WARN_UNUSED uint32_t petool_authenticode(const uint8_t *file, size_t len, petool_signature *rows, size_t room, size_t *count,
+                                                petool_fault *fault);
+
+/* from describe/records.txt: digest */
+typedef struct petool_digest {
+    uint8_t bytes[64]; /* its bytes, with zeros after them */
+    uint32_t len;      /* how many bytes it has: 16 (an import hash), 20, 32, 48 or 64 */
+} petool_digest;
+/* end of describe/records.txt */
+
+/* The digest that a signature of the file is to sign, by PETOOL_DIGEST_SHA1 to SHA512: of the file without CheckSum, the entry
+ * of directory 4 and the certificate table. OK; FAULT, with one of 1 to 12; ARGUMENT for another algorithm; or ABSENT if that
+ * table passes the file, or begins before the end of the entry. */
+PETOOL_WARN_UNUSED uint32_t petool_authenticode_digest(const uint8_t *file, size_t len, uint32_t algorithm, petool_digest *digest,
+                                                       petool_fault *fault);
+
+/* from describe/records.txt: signer */
+typedef struct petool_signer {
+    petool_text serial;                    /* the serial number, big-endian */
+    petool_text issuer, subject;           /* the contents of the names */
+    petool_text issuer_name, subject_name; /* their common names; empty if there is none */
+} petool_signer;
+/* end of describe/records.txt */
+
+static inline void petool_signers_init(petool_signer *rows, size_t count)
+{
+    petool_signer none = {PETOOL_NONE, PETOOL_NONE, PETOOL_NONE, PETOOL_NONE, PETOOL_NONE};
+    for (size_t k = 0; k < count; k++)
+        rows[k] = none;
+}
+
+/* The certificates that a signature has, given its bytes, as far as they can be read. OK; or SMALL. The rows must be initialized
+ * before. */
+PETOOL_WARN_UNUSED uint32_t petool_signers(const uint8_t *signature, size_t len, petool_signer *rows, size_t room, size_t *count);
+
+/* from describe/records.txt: rich_header, rich_pair */
+typedef struct petool_rich_header {
+    uint64_t offset;   /* the file offset of DanS, with which it begins */
+    uint32_t key;      /* its key, with which all of it is exclusive-or'ed */
+    uint32_t computed; /* what the key is to be: a sum of the bytes before it and of its pairs */
+} petool_rich_header;
+
+typedef struct petool_rich_pair {
+    uint16_t product; /* the number of the tool */
+    uint16_t build;   /* the number of its build */
+    uint32_t count;   /* how many objects it made */
+} petool_rich_pair;
+/* end of describe/records.txt */
+
+/* The Rich header. OK; FAULT, with one of 1 to 12; or ABSENT. */
+PETOOL_WARN_UNUSED uint32_t petool_rich(const uint8_t *file, size_t len, petool_rich_header *rich, petool_fault *fault);
+
+/* Its pairs, in order; none without a Rich header. OK; SMALL; or FAULT, with one of 1 to 12. */
+PETOOL_WARN_UNUSED uint32_t petool_rich_pairs(const uint8_t *file, size_t len, petool_rich_pair *rows, size_t room, size_t *count,
+                                              petool_fault *fault);
+
+/* from describe/records.txt: overlays, overlay_range */
+enum {
+    PETOOL_OVERLAY_NONE = 0,          /* nothing: there is none */
+    PETOOL_OVERLAY_CERTIFICATES = 1,  /* the certificate table, by directory 4 */
+    PETOOL_OVERLAY_SYMBOL_TABLE = 2,  /* the symbol table, by PointerToSymbolTable */
+    PETOOL_OVERLAY_NSIS = 3,          /* the data of an NSIS installer */
+    PETOOL_OVERLAY_SEVEN_ZIP = 4,     /* a 7-Zip archive, or the configuration of an installer that unpacks one */
+    PETOOL_OVERLAY_ZIP = 5,           /* a ZIP archive */
+    PETOOL_OVERLAY_RAR = 6,           /* a RAR archive */
+    PETOOL_OVERLAY_CABINET = 7,       /* a cabinet */
+    PETOOL_OVERLAY_COMPOUND_FILE = 8, /* a compound file, such as a Windows Installer package */
+    PETOOL_OVERLAY_EXECUTABLE = 9,    /* an executable file */
+    PETOOL_OVERLAY_OTHER = 10         /* something else */
+};
+
+typedef struct petool_overlay_range {
+    uint64_t offset; /* where these bytes end */
+    uint64_t size;   /* how many bytes the file has from there on; 0 if it has no overlay */
+    uint32_t kind;   /* a PETOOL_OVERLAY: what the overlay begins with */
+} petool_overlay_range;
+/* end of describe/records.txt */
+
+/* The overlay, which is all behind the headers and the raw data of the last section: a certificate table belongs to it. OK; or
+ * FAULT, with one of 1 to 12. */
+PETOOL_WARN_UNUSED uint32_t petool_overlay(const uint8_t *file, size_t len, petool_overlay_range *overlay, petool_fault *fault);
+
+/* The findings on the certificate table (221 to 224) and on the Rich header (241), at most five, by number. OK; SMALL; or FAULT,
+ * with one of 1 to 12. */
+PETOOL_WARN_UNUSED uint32_t petool_trust_findings(const uint8_t *file, size_t len, petool_fault *rows, size_t room, size_t *count,
+                                                  petool_fault *fault);
+
+/* The import hash: the MD5 digest of what an image imports, told as text, which is 16 bytes and equal for programs that were built
+ * alike. OK; ABSENT if it imports nothing; FAULT, with one of 1 to 15 and 24 to 32; or NO_MEMORY. */
+PETOOL_WARN_UNUSED uint32_t petool_import_hash(const uint8_t *file, size_t len, petool_digest *hash, petool_fault *fault);
+
 /* ---- an image that is kept open between calls ---- */
 
 /* The caller owns the struct, and sets it to PETOOL_IMAGE_CLOSED before the first call. petool_image_open opens it;
@@ -546,14 +710,40 @@ typedef struct petool_binding {
 PETOOL_WARN_UNUSED uint32_t petool_judge(const petool_entry *set, size_t entries, bool known, petool_binding *rows, size_t room,
                                          size_t *count, uint32_t *cycle, petool_fault *fault);
 
+/* from describe/records.txt: unbound_import */
+typedef struct petool_unbound_import {
+    petool_text module, name; /* name: empty for an import by ordinal */
+    uint64_t ordinal;         /* the ordinal of an import by ordinal; otherwise 0 */
+    uint32_t image, slot;     /* the index of the entry whose image has the slot, and the slot's RVA */
+    bool by_ordinal;          /* whether it is imported by ordinal */
+} petool_unbound_import;
+/* end of describe/records.txt */
+
+static inline void petool_unbound_init(petool_unbound_import *rows, size_t room)
+{
+    petool_text none = PETOOL_NONE;
+    for (size_t i = 0; i < room; i++) {
+        petool_unbound_import row = {none, none, 0, 0, 0, false};
+        rows[i] = row;
+    }
+}
+
+/* Checks a set, in which an import from a module that is not there is no fault, as petool_judge does with `known`, and reports the
+ * imports that are therefore bound to nothing, image by image and in the order of each image's imports. Their slots keep their bytes
+ * from the file. OK; SMALL; FAULT, with the first fault of the set, and for 50 the length of the cycle of forwarders in *cycle; or
+ * MEMORY, but not if a name has a fault (41, 42) or the set is empty. */
+PETOOL_WARN_UNUSED uint32_t petool_unbound(const petool_entry *set, size_t entries, petool_unbound_import *rows, size_t room,
+                                           size_t *count, uint32_t *cycle, petool_fault *fault);
+
 /* ---- a space: many images at their bases, kept between calls ---- */
 
-/* The caller owns the struct, and sets it to PETOOL_SPACE_CLOSED before the first call. petool_space_map opens it;
- * petool_space_close frees its memory, and does nothing to a closed space. The struct may be moved to another place in memory
- * between two calls, but never copy it: both copies would own the same space, and closing both would free it twice.
+/* The caller owns the struct, and sets it to PETOOL_SPACE_CLOSED before the first call. petool_space_map or petool_space_open opens
+ * it; petool_space_close closes it, and does nothing to a closed space. The struct may be moved to another place in memory between
+ * two calls, but never copy it: petool_space_share makes another one of the same space, and the memory is freed with the last that
+ * is closed.
  * Only this library writes its fields; is_open may be read.
  * One call at a time may use it, from any thread: between calls from two threads there must be a lock, or the start or the end of a
- * thread. */
+ * thread. Threads that each have their own struct of one space need no lock. */
 /* from describe/records.txt: space */
 typedef struct petool_space {
     void *state;
@@ -583,6 +773,16 @@ PETOOL_WARN_UNUSED uint32_t petool_space_map(petool_space *space, const petool_e
  * 15, with which the set is refused. */
 PETOOL_WARN_UNUSED uint32_t petool_space_map_within(petool_space *space, const petool_entry *set, size_t entries, bool known,
                                                     uint64_t most_bytes, uint32_t *cycle, petool_fault *fault);
+
+/* Opens a set as a space over its files: the same bytes, bindings and moves as those of petool_space_map, without a copy of the
+ * images; OK, FAULT and MEMORY as there. The bytes of the files (not the entries, nor the names) must stay, unchanged, until the
+ * space and each that shares it is closed. */
+PETOOL_WARN_UNUSED uint32_t petool_space_open(petool_space *space, const petool_entry *set, size_t entries, bool known,
+                                              uint32_t *cycle, petool_fault *fault);
+
+/* Makes `other` a struct of the same space, for another thread; what it held is closed first. As long as both are open, the space is
+ * read, and not moved. OK, and then `other` is open if `space` is; or MEMORY, which leaves `other` closed. */
+PETOOL_WARN_UNUSED uint32_t petool_space_share(petool_space *space, petool_space *other);
 void petool_space_close(petool_space *space);
 
 /* The bytes from an address on. OK; FAULT 54 if they do not all lie in one image, which leaves the buffer unchanged, but never for
@@ -596,8 +796,8 @@ typedef struct petool_moved {
 } petool_moved;
 /* end of describe/records.txt */
 
-/* Moves the image of an entry to another base: relocates its fields, and binds again the slots whose exports are in it. OK; FAULT,
- * with the first of 55 and 44 to 47, which changes nothing; or CLOSED. */
+/* Moves the image of an entry to another base: relocates its fields, and binds again the slots whose exports are in it. OK; SHARED,
+ * if another open struct shares the space; FAULT, with the first of 55 and 44 to 47; or CLOSED. All but OK change nothing. */
 PETOOL_WARN_UNUSED uint32_t petool_space_move(petool_space *space, uint32_t image, uint64_t base, petool_moved *moved,
                                               petool_fault *fault);
 
@@ -968,6 +1168,107 @@ PETOOL_WARN_UNUSED static inline uint32_t petool_nullable_clr(const uint8_t *fil
 }
 #define petool_clr petool_nullable_clr
 
+PETOOL_WARN_UNUSED static inline uint32_t petool_nullable_check_sum(const uint8_t *file, size_t len, petool_check_sums *sum,
+                                                                    petool_fault *fault)
+{
+    if (PETOOL_IS_LOST(file, len))
+        return PETOOL_ARGUMENT;
+    return petool_check_sum((const uint8_t *)petool_some(file), len, sum, fault);
+}
+#define petool_check_sum petool_nullable_check_sum
+
+PETOOL_WARN_UNUSED static inline uint32_t petool_nullable_certificates(const uint8_t *file, size_t len, petool_certificate *rows,
+                                                                       size_t room, size_t *count, petool_fault *fault)
+{
+    if (PETOOL_IS_LOST(file, len))
+        return PETOOL_ARGUMENT;
+    if (PETOOL_IS_LOST(rows, room))
+        return PETOOL_ARGUMENT;
+    return petool_certificates((const uint8_t *)petool_some(file), len, (petool_certificate *)petool_room(rows), room, count,
+                               fault);
+}
+#define petool_certificates petool_nullable_certificates
+
+PETOOL_WARN_UNUSED static inline uint32_t petool_nullable_authenticode(const uint8_t *file, size_t len, petool_signature *rows,
+                                                                       size_t room, size_t *count, petool_fault *fault)
+{
+    if (PETOOL_IS_LOST(file, len))
+        return PETOOL_ARGUMENT;
+    if (PETOOL_IS_LOST(rows, room))
+        return PETOOL_ARGUMENT;
+    return petool_authenticode((const uint8_t *)petool_some(file), len, (petool_signature *)petool_room(rows), room, count, fault);
+}
+#define petool_authenticode petool_nullable_authenticode
+
+PETOOL_WARN_UNUSED static inline uint32_t petool_nullable_authenticode_digest(const uint8_t *file, size_t len, uint32_t algorithm,
+                                                                              petool_digest *digest, petool_fault *fault)
+{
+    if (PETOOL_IS_LOST(file, len))
+        return PETOOL_ARGUMENT;
+    return petool_authenticode_digest((const uint8_t *)petool_some(file), len, algorithm, digest, fault);
+}
+#define petool_authenticode_digest petool_nullable_authenticode_digest
+
+PETOOL_WARN_UNUSED static inline uint32_t petool_nullable_signers(const uint8_t *signature, size_t len, petool_signer *rows,
+                                                                  size_t room, size_t *count)
+{
+    if (PETOOL_IS_LOST(signature, len))
+        return PETOOL_ARGUMENT;
+    if (PETOOL_IS_LOST(rows, room))
+        return PETOOL_ARGUMENT;
+    return petool_signers((const uint8_t *)petool_some(signature), len, (petool_signer *)petool_room(rows), room, count);
+}
+#define petool_signers petool_nullable_signers
+
+PETOOL_WARN_UNUSED static inline uint32_t petool_nullable_rich(const uint8_t *file, size_t len, petool_rich_header *rich,
+                                                               petool_fault *fault)
+{
+    if (PETOOL_IS_LOST(file, len))
+        return PETOOL_ARGUMENT;
+    return petool_rich((const uint8_t *)petool_some(file), len, rich, fault);
+}
+#define petool_rich petool_nullable_rich
+
+PETOOL_WARN_UNUSED static inline uint32_t petool_nullable_rich_pairs(const uint8_t *file, size_t len, petool_rich_pair *rows,
+                                                                     size_t room, size_t *count, petool_fault *fault)
+{
+    if (PETOOL_IS_LOST(file, len))
+        return PETOOL_ARGUMENT;
+    if (PETOOL_IS_LOST(rows, room))
+        return PETOOL_ARGUMENT;
+    return petool_rich_pairs((const uint8_t *)petool_some(file), len, (petool_rich_pair *)petool_room(rows), room, count, fault);
+}
+#define petool_rich_pairs petool_nullable_rich_pairs
+
+PETOOL_WARN_UNUSED static inline uint32_t petool_nullable_overlay(const uint8_t *file, size_t len, petool_overlay_range *overlay,
+                                                                  petool_fault *fault)
+{
+    if (PETOOL_IS_LOST(file, len))
+        return PETOOL_ARGUMENT;
+    return petool_overlay((const uint8_t *)petool_some(file), len, overlay, fault);
+}
+#define petool_overlay petool_nullable_overlay
+
+PETOOL_WARN_UNUSED static inline uint32_t petool_nullable_trust_findings(const uint8_t *file, size_t len, petool_fault *rows,
+                                                                         size_t room, size_t *count, petool_fault *fault)
+{
+    if (PETOOL_IS_LOST(file, len))
+        return PETOOL_ARGUMENT;
+    if (PETOOL_IS_LOST(rows, room))
+        return PETOOL_ARGUMENT;
+    return petool_trust_findings((const uint8_t *)petool_some(file), len, (petool_fault *)petool_room(rows), room, count, fault);
+}
+#define petool_trust_findings petool_nullable_trust_findings
+
+PETOOL_WARN_UNUSED static inline uint32_t petool_nullable_import_hash(const uint8_t *file, size_t len, petool_digest *hash,
+                                                                      petool_fault *fault)
+{
+    if (PETOOL_IS_LOST(file, len))
+        return PETOOL_ARGUMENT;
+    return petool_import_hash((const uint8_t *)petool_some(file), len, hash, fault);
+}
+#define petool_import_hash petool_nullable_import_hash
+
 PETOOL_WARN_UNUSED static inline uint32_t petool_nullable_image_open(petool_image *image, const uint8_t *file, size_t len,
                                                                      petool_fault *fault)
 {
@@ -1055,6 +1356,19 @@ PETOOL_WARN_UNUSED static inline uint32_t petool_nullable_judge(const petool_ent
 }
 #define petool_judge petool_nullable_judge
 
+PETOOL_WARN_UNUSED static inline uint32_t petool_nullable_unbound(const petool_entry *set, size_t entries,
+                                                                  petool_unbound_import *rows, size_t room, size_t *count,
+                                                                  uint32_t *cycle, petool_fault *fault)
+{
+    if (PETOOL_IS_LOST(set, entries))
+        return PETOOL_ARGUMENT;
+    if (PETOOL_IS_LOST(rows, room))
+        return PETOOL_ARGUMENT;
+    return petool_unbound((const petool_entry *)petool_some(set), entries, (petool_unbound_import *)petool_room(rows), room, count,
+                          cycle, fault);
+}
+#define petool_unbound petool_nullable_unbound
+
 PETOOL_WARN_UNUSED static inline uint32_t petool_nullable_space_map(petool_space *space, const petool_entry *set, size_t entries,
                                                                     bool known, uint32_t *cycle, petool_fault *fault)
 {
@@ -1073,6 +1387,15 @@ PETOOL_WARN_UNUSED static inline uint32_t petool_nullable_space_map_within(petoo
     return petool_space_map_within(space, (const petool_entry *)petool_some(set), entries, known, most_bytes, cycle, fault);
 }
 #define petool_space_map_within petool_nullable_space_map_within
+
+PETOOL_WARN_UNUSED static inline uint32_t petool_nullable_space_open(petool_space *space, const petool_entry *set, size_t entries,
+                                                                     bool known, uint32_t *cycle, petool_fault *fault)
+{
+    if (PETOOL_IS_LOST(set, entries))
+        return PETOOL_ARGUMENT;
+    return petool_space_open(space, (const petool_entry *)petool_some(set), entries, known, cycle, fault);
+}
+#define petool_space_open petool_nullable_space_open
 
 PETOOL_WARN_UNUSED static inline uint32_t petool_nullable_space_read(petool_space *space, uint64_t address, uint8_t *buffer,
                                                                      size_t len, petool_fault *fault)
@@ -1330,6 +1653,42 @@ PETOOL_SIZE(petool_bound_import, 8);
 PETOOL_AT(petool_bound_import, time_date_stamp, 0);
 PETOOL_AT(petool_bound_import, offset_module_name, 4);
 PETOOL_AT(petool_bound_import, number_of_module_forwarder_refs, 6);
+PETOOL_SIZE(petool_check_sums, 8);
+PETOOL_AT(petool_check_sums, written, 0);
+PETOOL_AT(petool_check_sums, computed, 4);
+PETOOL_SIZE(petool_certificate, 32);
+PETOOL_AT(petool_certificate, offset, 0);
+PETOOL_AT(petool_certificate, bytes, 8);
+PETOOL_AT(petool_certificate, length, 24);
+PETOOL_AT(petool_certificate, revision, 28);
+PETOOL_AT(petool_certificate, kind, 30);
+PETOOL_SIZE(petool_signature, 48);
+PETOOL_AT(petool_signature, offset, 0);
+PETOOL_AT(petool_signature, bytes, 8);
+PETOOL_AT(petool_signature, digest, 24);
+PETOOL_AT(petool_signature, algorithm, 40);
+PETOOL_AT(petool_signature, fits, 44);
+PETOOL_SIZE(petool_digest, 68);
+PETOOL_AT(petool_digest, bytes, 0);
+PETOOL_AT(petool_digest, len, 64);
+PETOOL_SIZE(petool_signer, 80);
+PETOOL_AT(petool_signer, serial, 0);
+PETOOL_AT(petool_signer, issuer, 16);
+PETOOL_AT(petool_signer, subject, 32);
+PETOOL_AT(petool_signer, issuer_name, 48);
+PETOOL_AT(petool_signer, subject_name, 64);
+PETOOL_SIZE(petool_rich_header, 16);
+PETOOL_AT(petool_rich_header, offset, 0);
+PETOOL_AT(petool_rich_header, key, 8);
+PETOOL_AT(petool_rich_header, computed, 12);
+PETOOL_SIZE(petool_rich_pair, 8);
+PETOOL_AT(petool_rich_pair, product, 0);
+PETOOL_AT(petool_rich_pair, build, 2);
+PETOOL_AT(petool_rich_pair, count, 4);
+PETOOL_SIZE(petool_overlay_range, 24);
+PETOOL_AT(petool_overlay_range, offset, 0);
+PETOOL_AT(petool_overlay_range, size, 8);
+PETOOL_AT(petool_overlay_range, kind, 16);
 PETOOL_SIZE(petool_image, 16);
 PETOOL_AT(petool_image, state, 0);
 PETOOL_AT(petool_image, is_open, 8);
@@ -1342,6 +1701,13 @@ PETOOL_AT(petool_binding, image, 0);
 PETOOL_AT(petool_binding, slot, 4);
 PETOOL_AT(petool_binding, exporter, 8);
 PETOOL_AT(petool_binding, rva, 12);
+PETOOL_SIZE(petool_unbound_import, 56);
+PETOOL_AT(petool_unbound_import, module, 0);
+PETOOL_AT(petool_unbound_import, name, 16);
+PETOOL_AT(petool_unbound_import, ordinal, 32);
+PETOOL_AT(petool_unbound_import, image, 40);
+PETOOL_AT(petool_unbound_import, slot, 44);
+PETOOL_AT(petool_unbound_import, by_ordinal, 48);
 PETOOL_SIZE(petool_space, 16);
 PETOOL_AT(petool_space, state, 0);
 PETOOL_AT(petool_space, is_open, 8);

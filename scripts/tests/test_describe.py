@@ -8,7 +8,7 @@ import tempfile
 import unittest
 
 TOP = pathlib.Path(__file__).resolve().parents[2]
-CRATES = ("pe_records_c", "pe_tables_c", "pe_handle", "pe_opened", "petool_c", "pe_json")
+CRATES = ("pe_records_c", "pe_tables_c", "pe_trust_c", "pe_handle", "pe_opened", "petool_c", "pe_json")
 #: The crates that test faults or have a table of them.
 FAULT_CRATES = (
     "pe_text",
@@ -180,6 +180,8 @@ COMPARED = [
     ("crates/pe_records_c/src/text.rt", "pub bytes: &'a [u8]", "pub bytes: u64"),
     ("crates/pe_tables_c/src/pdb.rt", "TWO: u32 = 1;", "TWO: u32 = 2;"),
     ("crates/pe_tables_c/src/tls.rt", "pub is_whole: bool", "pub is_whole: u8"),
+    ("crates/pe_trust_c/src/signature.rt", "UNKNOWN: u32 = 2;", "UNKNOWN: u32 = 3;"),
+    ("crates/pe_trust_c/src/rich.rt", "pub computed: u32", "pub computed: u64"),
     ("crates/pe_handle/src/handle.rt", "pub is_open: bool", "pub is_open: u8"),
     ("crates/pe_opened/src/handle.rt", "pub is_open: bool", "pub is_open: u8"),
     ("crates/petool_c/src/fixup.rt", "rows: &mut [FixupRow]", "rows: &mut [ImportRow]"),

@@ -107,6 +107,59 @@ static void ask_beyond(const uint8_t *file, size_t len, uint32_t judged, const p
     CHECK(right);
 }
 
+/* Whether a call that reads the headers alone returns the fault of petool_check, if that is one of 1 to 12, and else none. */
+static int agrees_of_headers(uint32_t status, const petool_fault *fault, uint32_t judged, const petool_fault *first)
+{
+    if (judged == PETOOL_FAULT && first->number <= 12)
+        return status == PETOOL_FAULT && memcmp(fault, first, sizeof *first) == 0;
+    return status != PETOOL_FAULT;
+}
+
+/* What a file says of itself, also of a file that is refused behind its headers. */
+static void ask_trust(const uint8_t *file, size_t len, uint32_t judged, const petool_fault *first)
+{
+    petool_check_sums sum;
+    petool_certificate certificates[ROWS];
+    petool_signature signatures[ROWS];
+    petool_signer signers[ROWS];
+    petool_digest digest;
+    petool_rich_header rich;
+    petool_rich_pair pairs[ROWS];
+    petool_overlay_range overlay = {0, 0, 0};
+    petool_fault found[5], fault = {0, 0, 0, 0};
+    size_t count = 0, signer_count = 0;
+    uint32_t status;
+    int right;
+    petool_certificates_init(certificates, ROWS);
+    petool_signatures_init(signatures, ROWS);
+    petool_signers_init(signers, ROWS);
+    status = petool_check_sum(file, len, &sum, &fault);
+    right = agrees_of_headers(status, &fault, judged, first);
+    status = petool_certificates(file, len, certificates, ROWS, &count, &fault);
+    right = right && agrees_of_headers(status, &fault, judged, first) && count <= len / 8;
+    status = petool_authenticode(file, len, signatures, ROWS, &count, &fault);
+    right = right && agrees_of_headers(status, &fault, judged, first);
+    status = petool_signers(signatures[0].bytes.at, signatures[0].bytes.len, signers, ROWS, &signer_count);
+    right = right && (status == PETOOL_OK || status == PETOOL_SMALL);
+    status = petool_signers(file, len, signers, ROWS, &signer_count);
+    right = right && (status == PETOOL_OK || status == PETOOL_SMALL);
+    status = petool_authenticode_digest(file, len, PETOOL_DIGEST_SHA256, &digest, &fault);
+    right = right && agrees_of_headers(status, &fault, judged, first);
+    status = petool_rich(file, len, &rich, &fault);
+    right = right && agrees_of_headers(status, &fault, judged, first);
+    status = petool_rich_pairs(file, len, pairs, ROWS, &count, &fault);
+    right = right && agrees_of_headers(status, &fault, judged, first);
+    status = petool_overlay(file, len, &overlay, &fault);
+    right = right && agrees_of_headers(status, &fault, judged, first) && overlay.size <= len;
+    right = right && (overlay.size != 0) == (overlay.kind != PETOOL_OVERLAY_NONE);
+    status = petool_trust_findings(file, len, found, 5, &count, &fault);
+    right = right && agrees_of_headers(status, &fault, judged, first) && status != PETOOL_SMALL;
+    status = petool_import_hash(file, len, &digest, &fault);
+    right = right && (judged != PETOOL_OK || status == PETOOL_OK || status == PETOOL_ABSENT);
+    right = right && (status != PETOOL_FAULT || fault.number <= 15 || (fault.number >= 24 && fault.number <= 32));
+    CHECK(right);
+}
+
 /* An image is open if and only if the file has no fault, and its look-ups return what the calls over the file do. */
 static void ask_opened(const uint8_t *file, size_t len, uint32_t judged, const petool_fault *first)
 {
@@ -135,7 +188,8 @@ static void ask_opened(const uint8_t *file, size_t len, uint32_t judged, const p
 
 static void ask_spaces(const uint8_t *file, size_t len)
 {
-    petool_space space = PETOOL_SPACE_CLOSED;
+    petool_space space = PETOOL_SPACE_CLOSED, opened = PETOOL_SPACE_CLOSED;
+    petool_fault first = {0, 0, 0, 0};
     petool_fault fault = {0, 0, 0, 0};
     petool_entry set[1];
     petool_moved moved;
@@ -148,12 +202,15 @@ static void ask_spaces(const uint8_t *file, size_t len)
     set[0].base = 0x20000000;
     status = petool_space_map(&space, set, 1, true, &cycle, &fault);
     CHECK(is_answer(status, &fault, 50) && space.is_open == (status == PETOOL_OK));
+    CHECK(petool_space_open(&opened, set, 1, true, &cycle, &first) == status && opened.is_open == space.is_open);
+    CHECK(memcmp(&fault, &first, sizeof fault) == 0);
     if (space.is_open) {
         CHECK(petool_space_read(&space, 0x20000000, bytes, 16, &fault) == PETOOL_OK || fault.number == 54);
         status = petool_space_move(&space, 0, 0x60000000, &moved, &fault);
         CHECK(is_answer(status, &fault, 55));
     }
     petool_space_close(&space);
+    petool_space_close(&opened);
 }
 
 static void ask(const uint8_t *file, size_t len)
@@ -169,6 +226,7 @@ static void ask(const uint8_t *file, size_t len)
     ask_headers(file, len, judged, &first);
     ask_tables(file, len, judged, &first);
     ask_beyond(file, len, judged, &first);
+    ask_trust(file, len, judged, &first);
     ask_opened(file, len, judged, &first);
     ask_spaces(file, len);
     status = petool_rebase(file, len, 0x20000000, out, len, &fault);

@@ -192,6 +192,44 @@ static uint32_t map_over(void)
     return status;
 }
 
+/* Opens a set as a space over its files, and reads a slot. */
+static uint32_t open_set(void)
+{
+    uint32_t cycle = 0;
+    uint8_t slot[4] = {0, 0, 0, 0};
+    uint32_t status = petool_space_open(&space, abc, 3, false, &cycle, &fault);
+    CHECK(space.is_open == (status == PETOOL_OK));
+    if (status == PETOOL_OK)
+        CHECK(petool_space_read(&space, 0x401030, slot, 4, &fault) == PETOOL_OK && memcmp(slot, "\x10\x10\x00\x20", 4) == 0);
+    petool_space_close(&space);
+    return status;
+}
+
+/* Shares an open space, which a failure leaves open, and which is moved when only it is left. */
+static uint32_t share_space(void)
+{
+    petool_space other = PETOOL_SPACE_CLOSED;
+    petool_moved moved = {0, 0};
+    uint32_t cycle = 0;
+    uint32_t status = petool_space_map(&space, abc, 3, false, &cycle, &fault);
+    if (status == PETOOL_OK) {
+        status = petool_space_share(&space, &other);
+        CHECK(space.is_open && other.is_open == (status == PETOOL_OK));
+        petool_space_close(&other);
+        CHECK(petool_space_move(&space, 1, 0x30000000, &moved, &fault) == PETOOL_OK && moved.slots == 1);
+    }
+    petool_space_close(&space);
+    return status;
+}
+
+static uint32_t find_unbound(void)
+{
+    petool_unbound_import row[1];
+    uint32_t cycle = 0;
+    petool_unbound_init(row, 1);
+    return petool_unbound(abc, 3, row, 1, &count, &cycle, &fault);
+}
+
 /* The names of vr.dll do not ascend. To sort them takes three vectors; a call that lacks one of these looks each name up instead. */
 enum { SORTING = 3 };
 
@@ -221,10 +259,13 @@ static void refuse_each(const char *name, uint32_t (*call)(void), long spare)
     printf("%s: each of %ld growths refused\n", name, all);
 }
 
-/* The calls of an open image allocate nothing, nor does sharing a closed one, nor mapping a set that is too large. */
+/* The calls of an open image allocate nothing, nor does sharing a closed one, nor mapping a set that is too large; nor do those of a
+ * space over its files, or of a space that is shared. */
 static void check_opened(void)
 {
     petool_image other = PETOOL_IMAGE_CLOSED;
+    petool_space shared = PETOOL_SPACE_CLOSED;
+    petool_moved moved = {0, 0};
     petool_export exports[5];
     petool_import imports[5];
     petool_fixup fixups[4];
@@ -252,6 +293,17 @@ static void check_opened(void)
     petool_image_close(&image);
     CHECK(petool_image_share(&image, &other) == PETOOL_OK && asked == 0);
     CHECK(petool_space_map_within(&space, abc, 3, false, 0x8fff, &cycle, &fault) == PETOOL_LARGE && asked == 0);
+    CHECK(petool_space_open(&space, abc, 3, false, &cycle, &fault) == PETOOL_OK);
+    asked = 0;
+    CHECK(petool_space_read(&space, 0x401030, bytes, 4, &fault) == PETOOL_OK);
+    CHECK(petool_space_move(&space, 1, 0x30000000, &moved, &fault) == PETOOL_OK && asked == 0);
+    CHECK(petool_space_share(&space, &shared) == PETOOL_OK);
+    asked = 0;
+    CHECK(petool_space_read(&shared, 0x401030, bytes, 4, &fault) == PETOOL_OK);
+    CHECK(petool_space_move(&space, 1, 0x40000000, &moved, &fault) == PETOOL_SHARED && asked == 0);
+    petool_space_close(&shared);
+    petool_space_close(&space);
+    CHECK(petool_space_share(&space, &shared) == PETOOL_OK && asked == 0);
 }
 
 int main(int argc, char **argv)
@@ -283,6 +335,9 @@ int main(int argc, char **argv)
     refuse_each("petool_space_map", map_set, 0);
     refuse_each("petool_space_map_within", map_within, 0);
     refuse_each("petool_space_map over an open space", map_over, 0);
+    refuse_each("petool_space_open", open_set, 0);
+    refuse_each("petool_space_share", share_space, 0);
+    refuse_each("petool_unbound", find_unbound, 0);
     check_opened();
     free(v1.at), free(va.at), free(vb.at), free(vc.at), free(vr.at), free(v2.at);
     return told();

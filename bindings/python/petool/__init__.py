@@ -19,12 +19,14 @@ What is raised:
 - ``MemoryError``: out of memory.
 - ``OverflowError``: a base or an address has over 64 bits, or is negative; or the images of a ``Space`` have more than ``most_bytes``.
 - ``ValueError``: an image, an object or a space was closed before the call.
-- ``TypeError`` and ``BufferError``: an object's bytes are not in one piece.
+- ``TypeError`` and ``BufferError``: an object's bytes are not in one piece; ``BufferError`` also if a space that others share is
+  moved.
 
 ``Image.text`` and ``Image.locate`` return None if there is no such string or byte.
 
-Debug data, functions, TLS, the load configuration, bound imports and the CLR header refuse no image: ``Image.findings`` has each of
-their rules that is broken.
+Debug data, functions, TLS, the load configuration, bound imports, the CLR header, certificates and the Rich header refuse no image:
+``Image.findings`` has each of their rules that is broken. ``Trust`` has CheckSum, certificates, signatures, Rich header and overlay of
+an image that is refused behind its headers, too.
 
 Data is any object with the buffer protocol: bytes, bytearray, memoryview, mmap. It is not copied, and nobody may change it while a
 call runs. Calls do not hold the interpreter's lock. Make no call in a forked child of a process with threads.
@@ -63,8 +65,9 @@ from ._object import (
     ObjectSymbol,
     SectionHeader,
 )
-from ._space import Binding, Moved, Space, Standing, judge
+from ._space import Binding, Moved, Space, Standing, UnboundImport, judge, unbound
 from ._tables import BoundImport, ClrHeader, DebugEntry, Finding, Function, LoadConfiguration, Pdb, Tls
+from ._trust import Certificate, CheckSum, Overlay, RichHeader, RichPair, Signature, Signer, Trust
 
 
 def version() -> str:
@@ -83,6 +86,8 @@ __all__ = [
     "Binding",
     "BoundImport",
     "Buffer",
+    "Certificate",
+    "CheckSum",
     "ClrHeader",
     "DebugEntry",
     "Export",
@@ -101,21 +106,29 @@ __all__ = [
     "ObjectRelocation",
     "ObjectSection",
     "ObjectSymbol",
+    "Overlay",
     "Pdb",
     "Place",
+    "RichHeader",
+    "RichPair",
     "Rva",
     "SECTION_ABSOLUTE",
     "SECTION_DEBUG",
     "SECTION_UNDEFINED",
     "SectionHeader",
+    "Signature",
+    "Signer",
     "Space",
     "Standing",
     "Target",
     "Tls",
+    "Trust",
+    "UnboundImport",
     "check",
     "judge",
     "name_of",
     "open",
     "rebase",
+    "unbound",
     "version",
 ]

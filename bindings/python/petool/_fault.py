@@ -100,6 +100,8 @@ def raise_for(status: int) -> None:
         raise MemoryError("libpetool is out of memory")
     if status == _library.LARGE:
         raise OverflowError("the images have more bytes than most_bytes")
+    if status == _library.SHARED:
+        raise BufferError("another space shares the images")
     if status == _library.CLOSED:
         raise ValueError("it is closed")
     if status not in (_library.OK, _library.ABSENT, _library.SMALL):

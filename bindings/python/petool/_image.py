@@ -20,6 +20,7 @@ from ._file import OfFile
 from ._joined import HEADS, Joined
 from ._library import library
 from ._tables import BoundImport, ClrHeader, DebugEntry, Finding, Function, LoadConfiguration, Pdb, Tls
+from ._trust import TrustOfFile
 
 
 @dataclass(frozen=True)
@@ -363,7 +364,7 @@ class Exports(AbstractMapping):  # type: ignore[type-arg]
         return f"<Exports: {len(self._names)} names, {len(self._ordinals)} ordinals>"
 
 
-class Image(OfFile):
+class Image(TrustOfFile):
     """One image, from the bytes of its file. FormatFault if it has one of the image faults of docs/FAULTS.md.
 
     With ``check=False`` only the headers and sections are checked (1 to 15), and each table when it is first read. Nothing is
@@ -537,7 +538,8 @@ class Image(OfFile):
 
     @property
     def findings(self) -> Tuple[Finding, ...]:
-        """The rules of the tables beyond the profile that are broken, in the order of docs/FAULTS.md by table."""
+        """The rules of the tables beyond the profile, of the certificate table and of the Rich header that are broken, in the order of
+        docs/FAULTS.md by table."""
         if self._findings is None:
             self._findings = _tables.findings_by(lambda *rows: self._ask(library.petool_findings, *rows))
         return self._findings

@@ -20,6 +20,7 @@ SMALL = 4  #: too little room: the count says how much is needed
 ARGUMENT = 5  #: an argument has a value that it may not have; nothing was done
 CLOSED = 6  #: the image or the space is not open
 LARGE = 7  #: the images of the set have more bytes than the caller allows; nothing was mapped
+SHARED = 8  #: another handle has the space, so it is not moved
 # end of describe/records.txt
 
 # from describe/records.txt: names

@@ -108,6 +108,22 @@ class TlsDirectory(Structure):
     ]
 
 
+class CheckSums(Structure):
+    _fields_ = [("written", c_uint32), ("computed", c_uint32)]
+
+
+class Digest(Structure):
+    _fields_ = [("bytes", c_uint8 * 64), ("len", c_uint32)]
+
+
+class RichHeader(Structure):
+    _fields_ = [("offset", c_uint64), ("key", c_uint32), ("computed", c_uint32)]
+
+
+class OverlayRange(Structure):
+    _fields_ = [("offset", c_uint64), ("size", c_uint64), ("kind", c_uint32)]
+
+
 class Image(Structure):
     _fields_ = [("state", c_void_p), ("is_open", c_bool)]
 
@@ -161,7 +177,12 @@ FORMS = {
     "callback": "Q",
     "field": "Q?xxxxxxx",
     "bound_import": "IHH",
+    "certificate": "QPNIHH",
+    "signature": "QPNPNII",
+    "signer": "PNPNPNPNPN",
+    "rich_pair": "HHI",
     "binding": "IIII",
+    "unbound_import": "PNPNQII?xxxxxxx",
     "object_section": "PNPNIIIIIxxxx",
     "object_relocation": "III",
     "object_symbol": "PNPNIIHHBxxx",
@@ -213,6 +234,19 @@ CALLS: Dict[str, Tuple[Any, List[Any]]] = {
     ),
     "petool_bound_imports": (c_uint32, [c_void_p, c_size_t, c_void_p, c_size_t, POINTER(c_size_t), POINTER(Fault)]),
     "petool_clr": (c_uint32, [c_void_p, c_size_t, c_void_p, c_size_t, POINTER(c_size_t), POINTER(Fault)]),
+    "petool_check_sum": (c_uint32, [c_void_p, c_size_t, POINTER(CheckSums), POINTER(Fault)]),
+    "petool_certificates": (c_uint32, [c_void_p, c_size_t, c_void_p, c_size_t, POINTER(c_size_t), POINTER(Fault)]),
+    "petool_authenticode": (c_uint32, [c_void_p, c_size_t, c_void_p, c_size_t, POINTER(c_size_t), POINTER(Fault)]),
+    "petool_authenticode_digest": (c_uint32, [c_void_p, c_size_t, c_uint32, POINTER(Digest), POINTER(Fault)]),
+    "petool_signers": (c_uint32, [c_void_p, c_size_t, c_void_p, c_size_t, POINTER(c_size_t)]),
+    "petool_rich": (c_uint32, [c_void_p, c_size_t, POINTER(RichHeader), POINTER(Fault)]),
+    "petool_rich_pairs": (c_uint32, [c_void_p, c_size_t, c_void_p, c_size_t, POINTER(c_size_t), POINTER(Fault)]),
+    "petool_overlay": (c_uint32, [c_void_p, c_size_t, POINTER(OverlayRange), POINTER(Fault)]),
+    "petool_trust_findings": (
+        c_uint32,
+        [c_void_p, c_size_t, POINTER(Fault), c_size_t, POINTER(c_size_t), POINTER(Fault)],
+    ),
+    "petool_import_hash": (c_uint32, [c_void_p, c_size_t, POINTER(Digest), POINTER(Fault)]),
     "petool_image_open": (c_uint32, [POINTER(Image), c_void_p, c_size_t, POINTER(Fault)]),
     "petool_image_share": (c_uint32, [POINTER(Image), POINTER(Image)]),
     "petool_image_read": (c_uint32, [POINTER(Image), c_uint32, c_void_p, c_size_t]),
@@ -231,6 +265,10 @@ CALLS: Dict[str, Tuple[Any, List[Any]]] = {
         c_uint32,
         [POINTER(Entry), c_size_t, c_bool, c_void_p, c_size_t, POINTER(c_size_t), POINTER(c_uint32), POINTER(Fault)],
     ),
+    "petool_unbound": (
+        c_uint32,
+        [POINTER(Entry), c_size_t, c_void_p, c_size_t, POINTER(c_size_t), POINTER(c_uint32), POINTER(Fault)],
+    ),
     "petool_space_map": (
         c_uint32,
         [POINTER(Space), POINTER(Entry), c_size_t, c_bool, POINTER(c_uint32), POINTER(Fault)],
@@ -239,6 +277,11 @@ CALLS: Dict[str, Tuple[Any, List[Any]]] = {
         c_uint32,
         [POINTER(Space), POINTER(Entry), c_size_t, c_bool, c_uint64, POINTER(c_uint32), POINTER(Fault)],
     ),
+    "petool_space_open": (
+        c_uint32,
+        [POINTER(Space), POINTER(Entry), c_size_t, c_bool, POINTER(c_uint32), POINTER(Fault)],
+    ),
+    "petool_space_share": (c_uint32, [POINTER(Space), POINTER(Space)]),
     "petool_space_read": (c_uint32, [POINTER(Space), c_uint64, c_void_p, c_size_t, POINTER(Fault)]),
     "petool_space_move": (c_uint32, [POINTER(Space), c_uint32, c_uint64, POINTER(Moved), POINTER(Fault)]),
     "petool_space_image": (c_uint32, [POINTER(Space), c_uint32, POINTER(c_uint64), POINTER(c_uint32)]),

@@ -92,24 +92,87 @@ def judge(images: Sequence[SetEntry], known: bool = False) -> List[Binding]:
     return list(Rows(read_rows(LAYOUTS["binding"], _GUESS, call), LAYOUTS["binding"], Binding, _bindings))
 
 
+class UnboundImport(NamedTuple):
+    """An import that is bound to nothing, since its search comes to a module that is not in the set."""
+
+    image: int  #: the index of the entry whose image has the slot
+    slot: int  #: the RVA of the slot, which keeps its bytes from the file
+    module: bytes
+    key: Union[bytes, int]  #: the name or the ordinal of the export in that module
+
+
+def unbound(images: Sequence[SetEntry]) -> Sequence[UnboundImport]:
+    """Checks a set, in which an import from a module that is not there is no fault, and returns the imports that are therefore
+    bound to nothing, image by image and in the order of each image's imports.
+
+    FormatFault of an image or set fault. The sequence holds the bytes of all files.
+    """
+    held = FileSet(images)
+
+    def call(*rows: Any) -> int:
+        return _ask_set(library.petool_unbound, held, held.entries, held.count, *rows)
+
+    def make(
+        module_at: int, module: int, at: int, length: int, ordinal: int, image: int, slot: int, by_ordinal: bool
+    ) -> UnboundImport:
+        text = held.files[image].text
+        return UnboundImport(image, slot, text(module_at, module), ordinal if by_ordinal else text(at, length))
+
+    return Rows(read_rows(LAYOUTS["unbound_import"], _GUESS, call), LAYOUTS["unbound_import"], make)
+
+
 class Space:
     """Images in one address space, each at its base, with its fields relocated and its imports bound.
 
     ``images`` are tuples of a module's name, its file's bytes and its base; the index of a tuple is that of its image. FormatFault
     of an image or set fault. With ``known``, an import from a module that is not in the set is not a fault, and its slot keeps
     its bytes from the file. OverflowError if the images have more than ``most_bytes`` bytes together, before memory is taken for
-    them. A space holds its own bytes: the files may be dropped. Each call takes a lock, so threads may share a space. After
-    ``close()`` each use raises ValueError.
+    them. A space holds its own bytes, so the files may be dropped; ``Space.open`` leaves them in the files instead. Each call takes
+    a lock, so threads may use one space, one at a time; ``shared()`` makes another, which has a lock of its own. After ``close()``
+    each use raises ValueError.
     """
 
     def __init__(self, images: Sequence[SetEntry], *, known: bool = False, most_bytes: Optional[int] = None) -> None:
-        self._lock = threading.Lock()
-        self._space = _records.Space(None, False)
+        self._begin()
         held = FileSet(images)
         most = (1 << 64) - 1 if most_bytes is None else unsigned(most_bytes, 64, "a number of bytes")
         _ask_set(library.petool_space_map_within, held, byref(self._space), held.entries, held.count, known, most)
         self._count = held.count
         self._largest = max((it.size for it in self.images), default=0)
+
+    def _begin(self) -> None:
+        """A closed space, before a call opens it."""
+        self._lock = threading.Lock()
+        self._space = _records.Space(None, False)
+        self._files: Optional[FileSet] = None
+
+    @classmethod
+    def open(cls, images: Sequence[SetEntry], *, known: bool = False) -> "Space":
+        """A space over the files of a set, as ``Space(images, known=known)``, without a copy of the images.
+
+        Nobody may change the bytes while the space, or one that shares it, is open; a bytearray cannot be resized until then.
+        """
+        space = cls.__new__(cls)
+        space._begin()
+        held = FileSet(images)
+        _ask_set(library.petool_space_open, held, byref(space._space), held.entries, held.count, known)
+        space._files, space._count = held, held.count
+        space._largest = max((it.size for it in space.images), default=0)
+        return space
+
+    def shared(self) -> "Space":
+        """Another space of the same images, for another thread: calls of the two do not wait for each other.
+
+        As long as both are open, neither is moved. The memory is freed when the last is closed.
+        """
+        other = type(self).__new__(type(self))
+        other._begin()
+        with self._lock:
+            raise_for(library.petool_space_share(byref(self._space), byref(other._space)))
+            if not other._space.is_open:
+                raise ValueError("it is closed")
+            other._files, other._count, other._largest = self._files, self._count, self._largest
+        return other
 
     def read(self, address: int, count: int) -> bytes:
         """The bytes from an address on. FormatFault 54 if they do not all lie in one image."""
@@ -130,7 +193,8 @@ class Space:
     def move(self, image: int, base: int) -> Moved:
         """Moves an image: relocates its fields, and binds again the slots whose exports are in it.
 
-        IndexError if there is no such image. FormatFault of 44 to 47, and then nothing is changed.
+        IndexError if there is no such image. FormatFault of 44 to 47, or BufferError as long as there is another space that shares
+        this one, and then nothing is changed.
         """
         if not 0 <= image < self._count:
             raise IndexError("there is no image with this index")
@@ -163,9 +227,10 @@ class Space:
             return Rows(read_rows(LAYOUTS["binding"], _GUESS, call), LAYOUTS["binding"], Binding, _bindings)
 
     def close(self) -> None:
-        """Frees the memory. Closing a closed space does nothing."""
+        """Frees the memory, unless another space shares it, and releases the files. Closing a closed space does nothing."""
         with self._lock:
             library.petool_space_close(byref(self._space))
+            self._files = None
 
     def __enter__(self) -> "Space":
         return self

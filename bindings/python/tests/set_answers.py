@@ -1,5 +1,5 @@
-"""The results for a set of all that check it: the call `judge`, a space in memory, and the program's `map`, which leaves the bytes
-in their files."""
+"""The results for a set of all that check it: the call `judge`, a space in memory, and one over the files, as the program's `map` has
+it."""
 
 import os
 import tempfile
@@ -31,7 +31,7 @@ class Answers(unittest.TestCase):
 
     def assert_refused(self, set_, known, number, image, at, cycle=None):
         """Asserts the fault of a set, at an RVA, by all that check it, and the length of a cycle."""
-        for call in (petool.judge, petool.Space):
+        for call in (petool.judge, petool.Space, petool.Space.open):
             with self.assertRaises(petool.FormatFault) as caught:
                 call(set_, known=known)
             fault = caught.exception
@@ -44,9 +44,10 @@ class Answers(unittest.TestCase):
 
     def assert_slots(self, set_, known, slots, expected):
         """Asserts that the slots at these addresses hold these bytes, in memory and in the files."""
-        with petool.Space(set_, known=known) as space:
-            for address in slots:
-                self.assertEqual(space.read(address, len(expected)), expected)
+        for make in (petool.Space, petool.Space.open):
+            with make(set_, known=known) as space:
+                for address in slots:
+                    self.assertEqual(space.read(address, len(expected)), expected)
         for address in slots:
             options = ("--window", f"{address:x}", "--count", str(len(expected)))
             told = self.mapped_by_program(set_, known, *options)

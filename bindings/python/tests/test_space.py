@@ -1,6 +1,7 @@
 """Sets and spaces: of va.dll, vb.dll and vc.dll one slot is bound, that of c.exe at RVA 0x1030, to RVA 0x1010 of b.dll. Objects."""
 
 import copy
+import pickle
 import struct
 import threading
 import unittest
@@ -39,6 +40,18 @@ class Sets(unittest.TestCase):
             petool.judge(entries()[1:])
         fault = caught.exception
         self.assertEqual((fault.number, fault.image, fault.at, fault.cycle), (48, 1, 0x1030, None))
+
+    def test_imports_that_are_bound_to_nothing(self):
+        a, b, c = entries()
+        self.assertEqual(list(petool.unbound([a, b, c])), [])
+        found = petool.unbound([c, a, ("d.exe", c[1], 0x500000)])
+        alone = [petool.UnboundImport(image, 0x1030, b"A.DLL", b"f") for image in (0, 2)]
+        self.assertEqual(list(found), alone)
+        self.assertEqual((len(found), found[-1]), (2, alone[1]))
+        self.assertEqual(pickle.loads(pickle.dumps(found)), tuple(alone))
+        with self.assertRaises(petool.FormatFault) as caught:
+            petool.unbound([a, a])
+        self.assertEqual((caught.exception.number, caught.exception.image), (42, 1))
 
     def test_a_base_of_more_bits(self):
         with self.assertRaises(OverflowError):
@@ -109,6 +122,79 @@ class Spaces(unittest.TestCase):
                 thread.start()
             for thread in threads:
                 thread.join()
+        self.assertEqual(wrong, [])
+
+    def test_a_space_over_its_files_is_that_of_the_set(self):
+        files = [(name, bytearray(file), base) for name, file, base in entries()]
+        with petool.Space(files) as mapped, petool.Space.open(files) as opened:
+            for base in (0x20000000, 0x30000000):
+                self.assertEqual(opened.move(1, base), mapped.move(1, base))
+                self.assertEqual(opened.images, mapped.images)
+                self.assertEqual(list(opened.bindings), list(mapped.bindings))
+                for at, size in mapped.images:
+                    self.assertEqual(opened.read(at, size), mapped.read(at, size))
+            # the bytes are those of the files, which may not be resized
+            files[0][1][0] = 0x4E
+            self.assertEqual((opened.read(0x10000000, 2), mapped.read(0x10000000, 2)), (b"NZ", b"MZ"))
+            for _, file, _ in files:
+                with self.assertRaises(BufferError):
+                    file.clear()
+        for _, file, _ in files:
+            file.clear()
+        with self.assertRaises(petool.FormatFault) as caught:
+            petool.Space.open(entries()[1:])
+        self.assertEqual((caught.exception.number, caught.exception.module), (48, b"A.DLL"))
+        with petool.Space.open(entries()[1:], known=True) as space:
+            self.assertEqual(list(space.bindings), [])
+
+    def test_a_shared_space_is_not_moved(self):
+        for make in (petool.Space, petool.Space.open):
+            with self.subTest(make), make(entries()) as space:
+                second, third = space.shared(), space.shared()
+                for each in (space, second, third):
+                    self.assertEqual(each.read(0x401030, 4), b"\x10\x10\x00\x20")
+                    self.assertEqual(list(each.bindings), [BOUND])
+                    self.assertEqual(each.images[1], (0x20000000, 0x3000))
+                    with self.assertRaises(BufferError):
+                        each.move(1, 0x30000000)
+                second.close()
+                with self.assertRaises(BufferError):
+                    third.move(1, 0x30000000)
+                for ask in (second.shared, lambda: second.move(1, 0)):
+                    with self.assertRaises(ValueError):
+                        ask()
+                third.close()
+                self.assertEqual(space.move(1, 0x30000000), petool.Moved(0, 1))
+                self.assertEqual(space.read(0x401030, 4), b"\x10\x10\x00\x30")
+
+    def test_the_files_stay_until_the_last_space_is_closed(self):
+        files = [(name, bytearray(file), base) for name, file, base in entries()]
+        space = petool.Space.open(files)
+        other = space.shared()
+        space.close()
+        with self.assertRaises(BufferError):
+            files[0][1].clear()
+        self.assertEqual(other.read(0x10000000, 2), b"MZ")
+        other.close()
+        files[0][1].clear()
+
+    def test_threads_share_a_space(self):
+        wrong = []
+
+        def ask(space):
+            with space:
+                for _ in range(200):
+                    if space.read(0x401030, 4) != b"\x10\x10\x00\x20":
+                        wrong.append(space)
+                    space.shared().close()
+
+        with petool.Space.open(entries()) as space:
+            threads = [threading.Thread(target=ask, args=(space.shared(),)) for _ in range(4)]
+            for thread in threads:
+                thread.start()
+            for thread in threads:
+                thread.join()
+            self.assertEqual(space.move(1, 0x30000000), petool.Moved(0, 1))
         self.assertEqual(wrong, [])
 
     def test_a_limit_of_bytes(self):

@@ -7,7 +7,7 @@ import subprocess
 import tempfile
 import unittest
 
-from .files import put
+from .files import changed, put
 from .test_program import HEADERS, IMPORTS, NAMED, SECTION, SIGNED, image_of
 
 PROGRAM = os.environ.get("PETOOL_PROGRAM")
@@ -50,6 +50,10 @@ class Sums(unittest.TestCase):
         with open(os.path.join(self.folder, name), "wb") as out:
             out.write(file)
 
+    def read(self, name):
+        with open(os.path.join(self.folder, name), "rb") as file:
+            return file.read()
+
     def told(self, name, file, field):
         held = int.from_bytes(file[field : field + 4], "little")
         return f"{name}: check sum 0x{held:08x} computed 0x{sum_of(file, field):08x}\n"
@@ -74,6 +78,33 @@ class Sums(unittest.TestCase):
             file = HEADERS + words
             self.write("a.dll", file)
             self.assertEqual((0, self.told("a.dll", file, 0x98), ""), self.run_program("sum", "a.dll"))
+
+    def test_a_rebased_file_gets_its_sum(self):
+        """With `--check-sum` the new file differs from that without it in the four bytes of the field alone, and its sum is right."""
+        for number, (file, field) in enumerate([(changed("v1.dll"), 0x98), (changed("v2.dll"), 0x98), (changed("v1.dll", size=0x601), 0x98)]):
+            with self.subTest(number):
+                self.write("old.dll", file)
+                self.assertEqual(0, self.run_program("rebase", "20000000", "old.dll", "plain.dll")[0])
+                self.assertEqual((0, "rebased 0x0000000020000000\n", ""), self.run_program("rebase", "--check-sum", "20000000", "old.dll", "new.dll"))
+                plain, new = self.read("plain.dll"), self.read("new.dll")
+                self.assertEqual(bytes(4), plain[field : field + 4])
+                self.assertEqual(sum_of(plain, field).to_bytes(4, "little"), new[field : field + 4])
+                self.assertEqual(plain, new[:field] + bytes(4) + new[field + 4 :])
+                self.assertEqual((0, self.told("new.dll", new, field), ""), self.run_program("sum", "new.dll"))
+
+    def test_a_file_that_is_refused_is_not_rebased_with_its_sum(self):
+        self.write("old.dll", changed("v1.dll"))
+        status, printed, _ = self.run_program("rebase", "--check-sum", "20000001", "old.dll", "new.dll")
+        self.assertEqual((1, "fault 44 image 0 address 0x0000000020000001\n"), (status, printed))
+        self.assertFalse(os.path.exists(os.path.join(self.folder, "new.dll")))
+
+    def test_the_sum_of_a_file_from_standard_input(self):
+        """Its size is not known before it is read."""
+        self.write("old.dll", changed("v1.dll"))
+        self.assertEqual(0, self.run_program("rebase", "--check-sum", "20000000", "old.dll", "new.dll")[0])
+        done = subprocess.run([PROGRAM, "rebase", "--check-sum", "20000000", "-", "-"], input=changed("v1.dll"), stdout=subprocess.PIPE, stderr=subprocess.PIPE,
+                              cwd=self.folder, check=False)
+        self.assertEqual((0, self.read("new.dll"), b"rebased 0x0000000020000000\n"), (done.returncode, done.stdout, done.stderr))
 
     def test_other_faults(self):
         """An image whose sections or tables have a fault has a CheckSum as any other."""

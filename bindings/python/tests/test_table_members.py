@@ -1,4 +1,5 @@
-"""The tables beyond the profile in lines of `json --all`: the members of each by a file of its own, written out, and the findings."""
+"""What is beyond the profile in lines of `json --all`: the members of each table, and of what a file says of itself, by a file of its own,
+written out; and the findings."""
 
 import json
 import os
@@ -9,21 +10,25 @@ import unittest
 
 from .cases import run
 from .files import numbers, put
+from . import test_trust as trust
 from .test_findings import AMD64, ARM64, BASE, CALLBACKS, FOUND, NB10, RSDS, SOUND, TLS, clr, debug, entry, image, load
 
 PROGRAM = os.environ.get("PETOOL_PROGRAM")
 
-#: The findings of debug data at a file offset, which no line tells.
-BY_OFFSET = (103, 105)
-ENTRY = ("characteristics", "time_date_stamp", "major_version", "minor_version", "type", "size_of_data", "address_of_raw_data", "pointer_to_raw_data")
-CLR_PAIRS = ("resources", "strong_name_signature", "code_manager_table", "vtable_fixups", "export_address_table_jumps", "managed_native_header")
+#: The members of what a file says of itself, and the findings.
+OF_FILE = ("check_sum_computed", "authenticode_sha256_hex", "certificates", "overlay", "rich", "findings")
+ENTRY = ("characteristics", "time_date_stamp", "major_version", "minor_version", "type", "size_of_data", "address_of_raw_data",
+         "pointer_to_raw_data")
+#: The directories of a CLR header after that of the metadata.
+CLR_PAIRS = ("resources", "strong_name_signature", "code_manager_table", "vtable_fixups", "export_address_table_jumps",
+             "managed_native_header")
 
 #: Files, and the members of their lines after `fixups`, without findings.
 MEMBERS = [
     (image(6, 0, b""), {"debug": []}),
     (image(6, 28, struct.pack("<IIHHIIII", 1, 2, 3, 4, 13, 5, 6, 7)), {"debug": [{
-        "characteristics": 1, "time_date_stamp": 2, "major_version": 3, "minor_version": 4, "type": 13, "type_name": "POGO", "size_of_data": 5,
-        "address_of_raw_data": 6, "pointer_to_raw_data": 7,
+        "characteristics": 1, "time_date_stamp": 2, "major_version": 3, "minor_version": 4, "type": 13, "type_name": "POGO",
+        "size_of_data": 5, "address_of_raw_data": 6, "pointer_to_raw_data": 7,
     }]}),
     (image(6, 56, entry(18) + entry(0xFFFFFFFF)), {"debug": [
         dict(zip(ENTRY, (0, 0, 0, 0, 18, 0, 0, 0))), dict(zip(ENTRY, (0, 0, 0, 0, 0xFFFFFFFF, 0, 0, 0))),
@@ -55,14 +60,28 @@ MEMBERS = [
         "virtual_memory_threshold": "0x0", "process_heap_flags": 0x99,
     }}),
     (image(10, 64, b"\1\2\3"), {"load_configuration": {"rva": 0x1000}}),
-    (image(11, 24, numbers(1, 0x00020003, 0, 4) + bytes(8)), {"bound_imports": [
-        {"time_date_stamp": 1, "offset_module_name": 3, "number_of_module_forwarder_refs": 2},
-        {"time_date_stamp": 0, "offset_module_name": 4, "number_of_module_forwarder_refs": 0},
+    (image(11, 16, numbers(1, 0x00020010, 0, 0x14) + bytes(8)), {"bound_imports": [
+        {"time_date_stamp": 1, "offset_module_name": 16, "number_of_module_forwarder_refs": 2, "module": ""},
+        {"time_date_stamp": 0, "offset_module_name": 20, "number_of_module_forwarder_refs": 0, "module": ""},
+    ]}),
+    # names that are in the file, that pass the run, that pass the image, of 255 bytes, and of 256
+    (image(11, 48, numbers(1, 48, 2, 52, 3, 0x1FFF, 4, 0x2000, 5, 54) + bytes(8) + b"a.b\0\xff\0" + b"x" * 256 + b"\0"), {"bound_imports": [
+        {"time_date_stamp": 1, "offset_module_name": 48, "number_of_module_forwarder_refs": 0, "module": "a.b"},
+        {"time_date_stamp": 2, "offset_module_name": 52, "number_of_module_forwarder_refs": 0, "module_hex": "ff"},
+        {"time_date_stamp": 3, "offset_module_name": 0x1FFF, "number_of_module_forwarder_refs": 0},
+        {"time_date_stamp": 4, "offset_module_name": 0x2000, "number_of_module_forwarder_refs": 0},
+        {"time_date_stamp": 5, "offset_module_name": 54, "number_of_module_forwarder_refs": 0},
+    ]}),
+    (image(11, 16, numbers(5, 17) + bytes(8) + b"y" + b"x" * 255 + b"\0x"), {"bound_imports": [
+        {"time_date_stamp": 5, "offset_module_name": 17, "number_of_module_forwarder_refs": 0, "module": "x" * 255},
+    ]}),
+    (image(11, 16, numbers(5, 17) + bytes(8) + b"yz"), {"bound_imports": [
+        {"time_date_stamp": 5, "offset_module_name": 17, "number_of_module_forwarder_refs": 0},
     ]}),
     (image(11, 8, bytes(8)), {"bound_imports": []}),
     (image(14, 72, clr(72, 0x1001, 2)), {"clr": {
-        "rva": 0x1000, "cb": 72, "major_runtime_version": 2, "minor_runtime_version": 5, "meta_data_rva": 0x1001, "meta_data_size": 2, "flags": 0,
-        "entry_point_token": 0,
+        "rva": 0x1000, "cb": 72, "major_runtime_version": 2, "minor_runtime_version": 5, "meta_data_rva": 0x1001, "meta_data_size": 2,
+        "flags": 0, "entry_point_token": 0,
         **{f"{name}_{part}": 0 for name in CLR_PAIRS for part in ("rva", "size")},
     }}),
     (image(14, 72, clr(72, 0, 0)[:7]), {"clr": {"rva": 0x1000, "cb": 72, "major_runtime_version": 2}}),
@@ -85,11 +104,16 @@ class TableMembers(unittest.TestCase):
         self.assertEqual(done.returncode, status)
         return json.loads(done.stdout)
 
-    def line(self, file):
-        """The line of a file with all tables, and its members after `fixups` without findings, in order."""
-        line = self.printed(file, "--all")
+    def line(self, file, *options):
+        """The line of a file with what is beyond the profile, and its members after `fixups` of tables, in order."""
+        line = self.printed(file, *(options or ("--all",)))
         names = list(line)
-        return line, {name: line[name] for name in names[names.index("fixups") + 1 :] if name != "findings"}
+        return line, {name: line[name] for name in names[names.index("fixups") + 1 :] if name not in OF_FILE}
+
+    def told(self, file, *options):
+        """What the line of a file tells of what the file says of itself, in order."""
+        line = self.printed(file, *(options or ("--all",)))
+        return {name: line[name] for name in line if name in OF_FILE[:-1]}
 
     def test_members(self):
         for number, (file, wanted) in enumerate(MEMBERS):
@@ -116,13 +140,22 @@ class TableMembers(unittest.TestCase):
             with self.subTest(number):
                 line, _ = self.line(file)
                 found = [(it["number"], it["image"], it["place"]) for it in line.get("findings", [])]
-                self.assertEqual(found, [] if number in BY_OFFSET else [(number, 0, {"rva": rva})])
-                self.assertEqual("findings" in line, number not in BY_OFFSET)
+                self.assertEqual(found, [(number, 0, {"rva": rva})])
+
+    def test_findings_of_a_file(self):
+        for number, (finding, file, place) in enumerate(trust.FOUND):
+            with self.subTest(number):
+                found = [(it["number"], it["image"], it["place"]) for it in self.printed(file, "--all")["findings"]]
+                self.assertEqual(found, [(finding, 0, {"file": place})])
+        for number, file in enumerate(trust.SOUND):
+            with self.subTest(number):
+                self.assertNotIn("findings", self.printed(file, "--all"))
 
     def test_a_finding_has_its_words(self):
         line, _ = self.line(image(3, 13, numbers(0x1000, 0x1001, 0x1000) + b"\0", machine=AMD64))
         self.assertEqual(line["findings"], [{
-            "number": 112, "image": 0, "place": {"rva": 0x1000}, "subject": "exception table", "rule": "its Size is not a multiple of the length of a record",
+            "number": 112, "image": 0, "place": {"rva": 0x1000}, "subject": "exception table",
+            "rule": "its Size is not a multiple of the length of a record",
         }])
         self.assertEqual(list(line)[-1], "findings")
 
@@ -145,12 +178,82 @@ class TableMembers(unittest.TestCase):
         self.assertEqual(list(members["pdb"]), ["guid_hex", "age"])
 
     def test_debug_data_after_the_sections(self):
-        """The line is the same where the data after the sections is read, from a pipe, as where it is not."""
+        """The line is the same from a pipe."""
         file = image(6, 28, entry(2, len(RSDS) + 6, 0, 0x2000)).ljust(0x2000, b"\0") + RSDS + b"a.pdb\0"
         line, members = self.line(file)
         self.assertEqual(list(members), ["debug"])
         piped = json.loads(run([PROGRAM, "json", "--all", "-"], input=file).stdout)
         self.assertEqual({**piped, "file": "a"}, line)
+
+    def test_functions(self):
+        amd64 = image(3, 24, numbers(0x1000, 0x1001, 0x1000, 0x1001, 0x1002, 0x1004), machine=AMD64)
+        rows = [{"begin": 0x1000, "end": 0x1001, "unwind": 0x1000}, {"begin": 0x1001, "end": 0x1002, "unwind": 0x1004}]
+        arm64 = image(3, 16, numbers(0x1000, 0x1004, 0x1002, 3), machine=ARM64)
+        packed = [{"begin": 0x1000, "unwind": 0x1004}, {"begin": 0x1002, "unwind": 3}]
+        for file, wanted in ((amd64, rows), (arm64, packed), (image(3, 0, b"", machine=AMD64), [])):
+            for options in (["--functions"], ["--all", "--functions"]):
+                with self.subTest(wanted=wanted, options=options):
+                    _, members = self.line(file, *options)
+                    self.assertEqual(members, {"function_count": len(wanted), "functions": wanted})
+        # a machine whose table has another form
+        self.assertEqual(self.line(image(3, 24, bytes(24)), "--functions")[1], {})
+
+    def test_signatures(self):
+        own = trust.certificate(b"\x12\x34", trust.ISSUER, trust.SUBJECT)
+        other = trust.certificate(b"\0\xff", trust.named(("550406", b"DE")), trust.named(("550403", b"\xff\"")))
+        signers = [{"serial_hex": "1234", "subject": "An Author", "issuer": "A Root"}, {"serial_hex": "00ff", "subject_hex": "ff22"}]
+        for algorithm, name in trust.NAMES.items():
+            with self.subTest(name):
+                file = trust.signed(algorithm, own, other)
+                digest = trust.digest_of(file, algorithm)
+                wanted = {"offset": 0xE0, "length": int.from_bytes(file[0xE0:0xE4], "little"), "revision": 0x200, "type": 2,
+                          "type_name": "PKCS_SIGNED_DATA", "digest_algorithm": name, "digest_hex": digest.hex(), "fits": True,
+                          "signers": signers}
+                self.assertEqual(json.dumps(self.told(file)["certificates"]), json.dumps([wanted]))
+                del wanted["fits"]
+                self.assertEqual(self.told(file, "--all", "--no-digest")["certificates"], [wanted])
+                # CheckSum is not signed, and the header is
+                self.assertEqual(self.told(put(bytearray(file), (0x98, b"\1")))["certificates"][0]["fits"], True)
+                self.assertEqual(self.told(put(bytearray(file), (0x48, b"\1")))["certificates"][0]["fits"], False)
+
+    def test_a_digest_of_an_algorithm_that_is_not_computed(self):
+        (row,) = self.told(trust.signed(trust.SHA224))["certificates"]
+        self.assertEqual(list(row), ["offset", "length", "revision", "type", "type_name", "digest_hex", "signers"])
+
+    def test_certificates_that_are_no_signature(self):
+        table = b"".join(trust.entry(bytes(kind), kind, 0x100) for kind in (1, 3, 4, 9)) + trust.entry(b"")
+        rows = self.told(trust.image(table))["certificates"]
+        self.assertEqual([(it["offset"], it["length"], it.get("type_name")) for it in rows],
+                         [(0xE0, 9, "X509"), (0xF0, 11, "RESERVED_1"), (0x100, 12, "TS_STACK_SIGNED"), (0x110, 17, None),
+                          (0x128, 8, "PKCS_SIGNED_DATA")])
+        self.assertEqual([list(it)[4:] for it in rows], [["type_name"]] * 3 + [[], ["type_name", "signers"]])
+
+    def test_check_sum_and_digest(self):
+        file = trust.image(trust.entry(b""), after=b"more", field=7)
+        wanted = {"check_sum_computed": trust.sum_of(file, 0x98),
+                  "authenticode_sha256_hex": trust.digest_of(file, trust.SHA256).hex()}
+        told = self.told(file)
+        self.assertEqual({name: told[name] for name in wanted}, wanted)
+        self.assertEqual(list(self.told(file, "--all", "--no-digest")), ["certificates", "overlay"])
+        # nothing can be signed where the table passes the file
+        self.assertNotIn("authenticode_sha256_hex", self.told(trust.image(trust.entry(b""), size=9)))
+
+    def test_overlay(self):
+        self.assertEqual(self.told(trust.image(after=b"12345"))["overlay"], {"offset": 0xE0, "size": 5})
+        self.assertNotIn("overlay", self.told(trust.image()))
+
+    def test_rich(self):
+        for key in (None, 0x12345678):
+            file, own = trust.rich(trust.PAIRS, key=key)
+            pairs = [{"product": tool >> 16, "build": tool & 0xFFFF, "count": count} for tool, count in trust.PAIRS]
+            self.assertEqual(json.dumps(self.told(file)["rich"]), json.dumps({"offset": 0x40, "key": own, "fits": key is None, "pairs": pairs}))
+        self.assertEqual(self.told(trust.rich([])[0])["rich"]["pairs"], [])
+
+    def test_many_signatures_cost_one_digest(self):
+        """Entries that all sign a digest of one algorithm are compared with one digest."""
+        row = trust.entry(trust.signature(trust.SHA256, bytes(32)))
+        file = trust.image(row * 20000, after=bytes(1 << 24))
+        self.assertEqual(len(self.told(file)["certificates"]), 20000)
 
 
 if __name__ == "__main__":

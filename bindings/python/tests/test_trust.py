@@ -1,5 +1,6 @@
-"""What a file says of itself on pages: CheckSum, certificates, the digest that a signature signs, and the Rich header; and each finding
-on these by a file of its own. The signatures are put together here, element by element, and their digests are Python's."""
+"""What a file says of itself on pages: CheckSum, certificates, the digest that a signature signs, the overlay, the Rich header and the
+import hash; and each finding on these by a file of its own. The signatures are put together here, element by element, and their digests
+are Python's."""
 
 import hashlib
 import os
@@ -11,8 +12,9 @@ import time
 import unittest
 
 from .cases import run
-from .files import numbers, put
+from .files import importing, numbers, put
 from .test_findings import words_of
+from .test_program import NAMED as IMPORTS_NAME
 from .test_program import image_of
 from .test_sum import sum_of
 
@@ -106,6 +108,11 @@ def rich(pairs, key=None, start=b"DanS"):
     return bytes(file), key
 
 
+#: What oleaut32.dll's ordinals 1, 2, 6, 58, 59, 115, 116, 149, 172, 173, 229, 230, 286, 287, 348, 349, 443, 444 and 65535 are in import hashes.
+OLEAUT32 = ["ord1", "sysallocstring", "sysfreestring", "vari4fromui1", "vari4fromi2", "varbstrfromdisp", "varbstrfrombool", "sysstringbytelen", "varint",
+            "varneg", "varbstrfromi1", "varbstrfromui2", "bstr_userfree", "variant_usersize", "vari4fromi8", "vari4fromui8",
+            "unregistertypelibforuser", "ord444", "ord65535"]
+
 #: Each finding with files that meet it and no other, and its place.
 FOUND = [
     (221, image(entry(b""), size=9), ENTRY),
@@ -144,8 +151,13 @@ class Trust(unittest.TestCase):
         return {block[0]: block[1:] for block in blocks}
 
     def trust(self, file, status=0):
-        """The rows after that of CheckSum."""
-        return self.parts(file, "--trust", status=status)["Trust"][1:]
+        """The rows after that of CheckSum, but for that of the overlay."""
+        rows = self.parts(file, "--trust", status=status)["Trust"][1:]
+        return [row for row in rows if not row.startswith("  Overlay ")]
+
+    def overlay(self, file):
+        """The row of the overlay, if there is one."""
+        return [row for row in self.parts(file, "--trust")["Trust"] if row.startswith("  Overlay ")]
 
     def test_each_finding_has_a_file(self):
         words = words_of()
@@ -228,6 +240,89 @@ class Trust(unittest.TestCase):
         self.assertEqual([f"  Rich header  2 tools at file 0x40, key 0x{key:08x}, right", *pairs], self.trust(file))
         other = rich(PAIRS, key=0x89ABCDEF)[0]
         self.assertEqual(["  Rich header  2 tools at file 0x40, key 0x89abcdef, wrong", *pairs], self.trust(other))
+
+    def test_overlays(self):
+        """What is behind the end of the file by its headers, which here is that of SizeOfHeaders, by its first bytes."""
+        self.assertEqual([], self.overlay(image()))
+        nsis = b"\xef\xbe\xad\xdeNullsoftInst"
+        marks = [(b"\2\0\0\0" + nsis, "the data of an NSIS installer"), (b"7z\xbc\xaf\x27\x1c", "a 7-Zip archive"), (b";!@Install@!", "a 7-Zip archive"),
+                 (b"PK\3\4", "a ZIP archive"), (b"Rar!\x1a\7", "a RAR archive"), (b"MSCF", "a cabinet"), (b"\xd0\xcf\x11\xe0\xa1\xb1\x1a\xe1", "a compound file"),
+                 (b"MZ", "an executable file"), (b"M", "other data"), (nsis, "other data"), (b"PK\5\6", "other data")]
+        for mark, words in marks:
+            for cut in (0, 1):
+                with self.subTest((mark, cut)):
+                    data, is_whole = mark[: len(mark) - cut] or b"?", cut == 0
+                    expected = f"  Overlay      {len(data)} byte{'s' if len(data) > 1 else ''} at file 0xe0, begins with {words if is_whole else 'other data'}"
+                    self.assertEqual([expected], self.overlay(image(after=data)))
+
+    def test_overlays_that_headers_tell(self):
+        row = "  Overlay      {} bytes at file 0xe0, begins with the {} table"
+        self.assertEqual([row.format(8, "certificate")], self.overlay(image(entry(b""))))
+        symbols = bytes(put(bytearray(image(after=b"MZ" + bytes(38))), (0x4C, numbers(END, 2))))
+        self.assertEqual([row.format(40, "symbol")], self.overlay(symbols))
+        for at, count in ((END, 0), (END + 1, 2)):
+            other = bytes(put(bytearray(symbols), (0x4C, numbers(at, count))))
+            self.assertEqual(["  Overlay      40 bytes at file 0xe0, begins with an executable file"], self.overlay(other))
+
+    def at(self, file, *offsets, status=0):
+        """What `at --file` prints for offsets of a file."""
+        (self.folder / "a").write_bytes(file)
+        done = run([PROGRAM, "at", "--file", "a", *(f"{it:x}" for it in offsets)], cwd=self.folder)
+        self.assertEqual(status, done.returncode)
+        return done.stdout.decode().splitlines()
+
+    def test_offsets_behind_the_image(self):
+        """The first and the last of each entry, of the table's bytes that are no entry, and of what is behind the table."""
+        table = entry(b"12345") + entry(b"", 1)
+        file = image(table + bytes(4), after=b"more")
+        first = len(entry(b"12345"))
+        self.assertEqual([f"file 0x{END:x}  certificate 0 +0x0", f"file 0x{END + 12:x}  certificate 0 +0xc", f"file 0x{END + 13:x}  certificate table +0xd",
+                          f"file 0x{END + first:x}  certificate 1 +0x0", f"file 0x{END + first + 7:x}  certificate 1 +0x7",
+                          f"file 0x{END + first + 8:x}  certificate table +0x{first + 8:x}", f"file 0x{END + first + 11:x}  certificate table +0x{first + 11:x}",
+                          f"file 0x{END + first + 12:x}  overlay +0x{first + 12:x}", f"file 0x{len(file) - 1:x}  overlay +0x{len(file) - 1 - END:x}",
+                          "the place is outside the image"],
+                         self.at(file, END, END + 12, END + 13, END + first, END + first + 7, END + first + 8, END + first + 11, END + first + 12, len(file) - 1,
+                                 len(file)))
+
+    def test_offsets_in_the_symbol_table(self):
+        file = bytes(put(bytearray(image(after=bytes(40))), (0x4C, numbers(END + 2, 2))))
+        self.assertEqual([f"file 0x{END:x}  overlay +0x0", f"file 0x{END + 2:x}  symbol table +0x0", f"file 0x{END + 37:x}  symbol table +0x23",
+                          f"file 0x{END + 38:x}  overlay +0x26"], self.at(file, END, END + 2, END + 37, END + 38))
+
+    def import_hash(self, file):
+        return [row for row in self.parts(file, "--trust")["Trust"] if row.startswith("  Import hash ")]
+
+    def test_import_hashes(self):
+        self.assertEqual([], self.import_hash(image()))
+        cases = [
+            (IMPORTS_NAME, "k.sleep"), (importing((b"MFC42.dll", [6394, 1])), "mfc42.ord6394,mfc42.ord1"),
+            # the first and the last ordinals of each table of names, those beside them, and some between
+            (importing((b"WS2_32.DLL", [1, 59, 60, 115, 116, 117, 151, 500, 501])),
+             "ws2_32.accept,ws2_32.wsainstallserviceclassw,ws2_32.wsaioctl,ws2_32.wsastartup,ws2_32.wsacleanup,ws2_32.ord117,ws2_32.__wsafdisset,"
+             "ws2_32.wep,ws2_32.ord501"),
+            (importing((b"wsock32.dll", [23])), "wsock32.socket"),
+            (importing((b"OLEAUT32.dll", [1, 2, 6, 58, 59, 115, 116, 149, 172, 173, 229, 230, 286, 287, 348, 349, 443, 444, 65535])),
+             ",".join(f"oleaut32.{it}" for it in OLEAUT32)),
+            (importing((b"oleaut32", [2])), "oleaut32.ord2"), (importing((b"A.OCX", [1]), (b"b.sys", [2]), (b"c.drv", [3]), (b"d.dll.dll", [4]), (b".dll", [5])),
+                                                              "a.ord1,b.ord2,c.drv.ord3,d.dll.ord4,.ord5"),
+            (importing((b"a b.dll", [1]), (b"a/b\\c.dll", [2]), (b"\xc4.dll", [3]), (b"!#$%&'()-@^_`{}~+,.;=[]", [4])),
+             "*invalid*.ord1,a/b\\c.ord2,*invalid*.ord3,!#$%&'()-@^_`{}~+,.;=[].ord4"),
+            # 512 bytes count
+            (importing((b"A" * 600 + b".dll", [1])), "a" * 512 + ".ord1"), (importing((b"b" * 508 + b".dll", [1])), "b" * 508 + ".ord1"),
+            (importing((b"c" * 512 + b"?", [1])), "c" * 512 + ".ord1"), (importing((b"c" * 511 + b"?", [1])), "*invalid*.ord1"),
+        ]
+        for file, text in cases:
+            with self.subTest(text[:60]):
+                self.assertEqual([f"  Import hash  {hashlib.md5(text.encode()).hexdigest()}"], self.import_hash(file))
+
+    def test_names_of_symbols(self):
+        for name, text in [(b"_a@8", "_a@8"), (b"?f@@YA", "?f@@ya"), (b"a.b<c>$(d)", "a.b<c>$(d)"), (b"a-b", "*invalid*"), (b"a b", "*invalid*"),
+                           (b"E" * 700, "e" * 512)]:
+            with self.subTest(name[:20]):
+                file = IMPORTS_NAME + bytes(0x400)
+                # SizeOfHeaders reaches over the name
+                file = bytes(put(bytearray(file), (0x94, numbers(len(file))), (0x152, name + b"\0")))
+                self.assertEqual([f"  Import hash  {hashlib.md5(f'k.{text}'.encode()).hexdigest()}"], self.import_hash(file))
 
     def test_an_image_that_is_refused_after_its_headers(self):
         """Its section passes the file."""

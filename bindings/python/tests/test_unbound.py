@@ -1,8 +1,11 @@
-"""`map --unbound` prints what `map` prints, and then the imports that are bound to nothing, by hand from the files."""
+"""`map --unbound` prints what `map` prints, and then the imports that are bound to nothing, by hand from the files; `petool.unbound` has
+the same."""
 
 import os
 import tempfile
 import unittest
+
+import petool
 
 from . import data
 from .cases import run, write_set
@@ -40,6 +43,24 @@ SETS = [
         ['unbound 0 0x00001030 "\\x0a\\x22\\x5cLL" "f"'],
     ),
 ]
+
+
+def quoted(text):
+    """A string as the program prints it."""
+    return '"' + "".join(chr(it) if 0x20 <= it < 0x7F and it not in b'"\\' else f"\\x{it:02x}" for it in text) + '"'
+
+
+def line_of(it):
+    """An import as the program prints it."""
+    key = f"#{it.key}" if isinstance(it.key, int) else quoted(it.key)
+    return f"unbound {it.image} 0x{it.slot:08x} {quoted(it.module)} {key}"
+
+
+class UnboundImports(unittest.TestCase):
+    def test_the_library_has_the_imports_that_the_program_prints(self):
+        for number, (members, lines) in enumerate(SETS):
+            with self.subTest(number):
+                self.assertEqual([line_of(it) for it in petool.unbound(members)], lines)
 
 
 @unittest.skipUnless(PROGRAM, "left out without program: PETOOL_PROGRAM names none")

@@ -4,6 +4,7 @@ ghost use Rattle.pe_text.specs.TextWriter.{IsReady};
 ghost use Rattle.pe_page.specs.Page.{AddsSome};
 
 use crate::at_place::where_cells;
+use crate::file_places::write_unlaid;
 use crate::header_places::header_row;
 use crate::row_name::row_cells;
 use crate::spot::{OUTSIDE, Spot, offset_in_section};
@@ -160,7 +161,7 @@ fn write_spot<W: Sink>(
 {
     match site_of(headers, file.strings(headers), spot) {
         Ok(site) => write_site(text, file, headers, names, site),
-        Err(words) => text.text(words),
+        Err(words) => write_unlaid(text, file, headers, spot, words),
     }
 }
 

@@ -8,6 +8,7 @@ ghost use Rattle.pe_text.specs.TextWriter.{IsReady};
 ghost use Rattle.pe_page.specs.Page.{AddsSome};
 
 use crate::at_headers::write_by_headers;
+use crate::file_places::write_unlaid;
 use crate::header_places::header_row;
 use crate::row_name::{RowName, row_cells};
 use crate::spot::{OUTSIDE, Spot, offset_in_section};
@@ -317,7 +318,7 @@ fn write_spot<A: Allocator + Copy, W: Sink>(
 {
     match rva_at(layout, file.strings(layout.headers()), spot) {
         Ok(rva) => write_at(text, layout, tables, names, rva),
-        Err(words) => text.text(words),
+        Err(words) => write_unlaid(text, file, layout.headers(), spot, words),
     }
 }
 

@@ -8,6 +8,7 @@ mod at_engine;
 mod at_headers;
 mod at_object;
 mod at_place;
+mod file_places;
 mod header_places;
 mod object_places;
 mod relocation_width;

@@ -44,7 +44,7 @@ fn write_text(
         Engine::Dump => dump(alloc, &mut reader, &mut writer),
         Engine::Object => dump_object(alloc, &mut reader, &mut writer),
         Engine::Page => show(alloc, b"made-up", &WHOLE_PAGE, &mut reader, &mut writer),
-        Engine::Json => json(alloc, b"made-up", false, &mut reader, &mut writer),
+        Engine::Json => json(alloc, b"made-up", None, &mut reader, &mut writer),
     }
 }
 

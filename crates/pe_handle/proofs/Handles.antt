@@ -22,8 +22,8 @@ use Rattle.std.specs.contracts.alloc.Global as global
 use Rattle.std.proofs.alloc.Global.TheLaws as global_laws
 use Rattle.std.specs.contracts.impls.GlobalAllocator.TheImpl.{ghosts}
 use Rattle.std.specs.Box.Ownership.{box_owns}
-use Rattle.pe_space.specs.Content.{Content}
-use Rattle.pe_handle.specs.Held.{held, space_row}
+use Rattle.pe_handle.specs.Shared.{SharedContent}
+use Rattle.pe_handle.specs.Held.{held, owner_row}
 use Rattle.pe_handle.specs.contracts.box_parts.BoxParts as parts
 use Rattle.pe_handle.specs.contracts.handle.Handle as handle
 use Rattle.pe_handle.proofs.Stored.{Fits, pointer_fits, one_value}
@@ -35,7 +35,7 @@ abbrev pub alloc_laws : Laws Alloc
 alloc_laws = global_laws.the_row_laws
 
 abbrev pub Parts : RattleType
-Parts = parts.the_row space_row Alloc ghosts
+Parts = parts.the_row owner_row Alloc ghosts
 
 abbrev pub Handle : RattleType
 Handle = handle.the_row
@@ -52,26 +52,26 @@ handle_fits p y h fits = (both_hold _ _ (pointer_fits p).0 (both_hold _ _ fits.0
 
 module _ {M : Type 1} {𝓤 : Ura M} {𝓛 : Logic 𝓤} {K : Type 0} {Γ : List (Item 𝓤)} {G : Goal 𝓤 𝓛.H} where
   pub handle_out : K → (d : Handle.Denot) (vs : List Val)
-      → ((h : Val) → vs ≡ handle_word d.state d.is_open h ∷ [] → Fits Alloc alloc_laws h → Seq K 𝓛 (‵ (Alloc.own_val d.alloc (h ∷ [])) ∷ ‵ (held d.alloc d.is_open d.state d.space) ∷ Γ) G)
+      → ((h : Val) → vs ≡ handle_word d.state d.is_open h ∷ [] → Fits Alloc alloc_laws h → Seq K 𝓛 (‵ (Alloc.own_val d.alloc (h ∷ [])) ∷ ‵ (held d.alloc d.is_open d.state d.owner) ∷ Γ) G)
       → Seq K 𝓛 (‵ (Handle.own_val d vs) ∷ Γ) G
   handle_out t d vs k =
       fsplit t $ fpick t (λ vss. fsplit t $ feq_l t (λ ev. fsplit t $ feq_l t (λ ep. fsplit t $ feq_l t (λ ey. fsplit t $ move t (1 ∷ []) $ drop t $
       one_value Alloc alloc_laws t d.alloc vss.1.1.0 (λ h ea fits. k h (ev ∙ (λ j. vstruct (of_list (ep j ++ (ey j ++ (ea j ++ [])))) ∷ [])) fits)))))
 
   pub handle_in : K → (d : Handle.Denot) (h : Val)
-      → Step K 𝓛 (‵ (Handle.own_val d (handle_word d.state d.is_open h ∷ [])) ∷ Γ) G (‵ (Alloc.own_val d.alloc (h ∷ [])) ∷ ‵ (held d.alloc d.is_open d.state d.space) ∷ Γ) G
+      → Step K 𝓛 (‵ (Handle.own_val d (handle_word d.state d.is_open h ∷ [])) ∷ Γ) G (‵ (Alloc.own_val d.alloc (h ∷ [])) ∷ ‵ (held d.alloc d.is_open d.state d.owner) ∷ Γ) G
   handle_in t d h = step (λ s. let v : Val = handle_word d.state d.is_open h in
       nothing t $ move t (1 ∷ 0 ∷ []) $ fjoin t $ feq_i t (List Val) (vbool d.is_open ∷ []) (vbool d.is_open ∷ []) refl $ fjoin t $
       feq_i t (List Val) (ptr_val d.state ∷ []) (ptr_val d.state ∷ []) refl $ fjoin t $ feq_i t (List Val) (v ∷ []) (v ∷ []) refl $ fjoin t $
       fpack t (Valss (RawPtr ∷ bool ∷ Alloc ∷ [])) (within (shape handle.the_type) (to handle.the_type d) (v ∷ [])) (ptr_val d.state ∷ [], (vbool d.is_open ∷ [], (h ∷ [], tt))) $ fjoin t $ s)
 
-  pub open_holds : K → (a : Global) (y : Bool) (p : Ptr) (v : Option Content) → T y
-      → ((x : Content) → v ≡ Some x → y ≡ true → Seq K 𝓛 (‵ (box_owns (ghosts.dealloc_token a) space_row p x) ∷ Γ) G) → Seq K 𝓛 (‵ (held a y p v) ∷ Γ) G
+  pub open_holds : K → (a : Global) (y : Bool) (p : Ptr) (v : Option SharedContent) → T y
+      → ((x : SharedContent) → v ≡ Some x → y ≡ true → Seq K 𝓛 (‵ (box_owns (ghosts.dealloc_token a) owner_row p x) ∷ Γ) G) → Seq K 𝓛 (‵ (held a y p v) ∷ Γ) G
   open_holds t a true p (Some x) is k = k x refl refl
   open_holds t a true p None is k = use1 𝓛 (given ⊥ (‵ ftrue)) (never_e 𝓤 _) $ learn t (λ z. absurd z)
   open_holds t a false p v is k = absurd is
 
-  pub closed_holds : K → (a : Global) (y : Bool) (p : Ptr) (v : Option Content) → T (not y)
+  pub closed_holds : K → (a : Global) (y : Bool) (p : Ptr) (v : Option SharedContent) → T (not y)
       → (v ≡ None → y ≡ false → Seq K 𝓛 Γ G) → Seq K 𝓛 (‵ (held a y p v) ∷ Γ) G
   closed_holds t a false p None is k = drop t $ k refl refl
   closed_holds t a false p (Some x) is k = use1 𝓛 (given ⊥ (‵ ftrue)) (never_e 𝓤 _) $ learn t (λ z. absurd z)

@@ -1,5 +1,5 @@
 -- The first item of a list that passes a test, among those that are left.
-use Rattle.std.proofs.Common.{◌≡◌, ◌+◌, ℕ, zero, suc, Bool, true, false, List, [], ◌∷◌, drop, Option, Some, None, refl, sym, ap, add-one, ◌∙◌}
+use Rattle.std.proofs.Common.{◌≡◌, ◌+◌, ℕ, zero, suc, Bool, true, false, List, [], ◌∷◌, drop, Some, sym, ap, add-one, ◌∙◌}
 use Rattle.std.specs.Prelude.{find, cond, slice_get}
 
 -- it is the item at this place

@@ -3,7 +3,6 @@ pub mod Escapes
 pub mod FaultValues
 pub mod FirstItem
 pub mod FlagItems
-pub mod FoundItems
 pub mod HeadBytes
 pub mod ImageValues
 pub mod JsonMembers
@@ -22,5 +21,6 @@ pub mod RowByRow
 pub mod SameLines
 pub mod Sized
 pub mod Tested
+pub mod TrustValues
 pub mod Values
 pub mod Zeros

@@ -29,13 +29,15 @@ use Rattle.pe_json.specs.Line.{first_members, line}
 use Rattle.pe_json.specs.ImageLine.{head_members, exports_members, imports_members, fixups_members}
 use Rattle.pe_json.specs.ObjectLine.{object_members}
 use Rattle.pe_json.specs.Refused.{fault_members, exports_if, imports_if, fixups_if, kind_of_refused, refused_line}
-use Rattle.pe_json.specs.FileLine.{told_records, whole_tables, laid_out_tables, image_members, object_file_line, image_file_line, file_line}
+use Rattle.pe_json.specs.ImageRecords.{members_beyond}
+use Rattle.pe_json.specs.declared.beyond.Beyond.{Beyond}
+use Rattle.pe_json.specs.FileLine.{whole_tables, laid_out_tables, image_members, object_file_line, image_file_line, file_line}
 use Rattle.pe_json.proofs.Printed.{AreMembers, ascii, is_boolean, object_text}
 use Rattle.pe_json.proofs.JsonMembers.{IfUtf8, is_member, number_member, name_member, members_then, text_members}
 use Rattle.pe_json.proofs.FaultValues.{are_fault_members}
 use Rattle.pe_json.proofs.ImageValues.{are_head_members, are_exports_members, are_imports_members, are_fixups_members}
 use Rattle.pe_json.proofs.ObjectValues.{are_object_members}
-use Rattle.pe_json.proofs.RecordValues.{are_record_members}
+use Rattle.pe_json.proofs.RecordValues.{are_members_beyond}
 
 -- ---- what of a refused image has no fault
 are_exports_if : (limit : ℕ) (exports : Option Exports) → AreMembers (suc (suc (suc limit))) (exports_if exports)
@@ -110,27 +112,23 @@ object_line_is : (name file : List ℕ) (outcome : Outcome) → IsLine (object_f
 object_line_is name file Done = is_line name true (object_members file) (are_object_members _ file)
 object_line_is name file (Refused fault) = refused_is_line name file (length file) fault [] tt
 
-are_told_records : (limit : ℕ) (all : Bool) (machine : ℕ) (i : LaidOut) → AreMembers (suc (suc (suc limit))) (told_records all machine i)
-are_told_records limit true machine i = are_record_members limit machine i
-are_told_records limit false machine i = tt
-
-image_line_is : (all : Bool) (name : List ℕ) (size : ℕ) (file : List ℕ) (outcome : Outcome) → IsLine (image_file_line all name size file outcome)
-image_line_is all name size file Done =
+image_line_is : (beyond : Option Beyond) (name : List ℕ) (size : ℕ) (file : List ℕ) (outcome : Outcome) → IsLine (image_file_line beyond name size file outcome)
+image_line_is beyond name size file Done =
     let i = image_of_file 0 file in
     is_line name true _
-    (members_then _ _ (told_records all (head_of file).machine i)
+    (members_then _ _ (members_beyond beyond file (head_of file) i)
     (members_then _ (head_members (image_strings file (head_of file)) (head_of file)) _ (are_head_members _ (image_strings file (head_of file)) (head_of file))
     (members_then _ (exports_members (exports_of i)) _ (are_exports_members _ (exports_of i))
     (members_then _ (imports_members (imports_of i)) (fixups_members (fixups_of i)) (are_imports_members _ (imports_of i)) (are_fixups_members _ (fixups_of i)))))
-    (are_told_records _ all (head_of file).machine i))
-image_line_is all name size file (Refused fault) = refused_is_line name file size fault (image_members file) (are_image_members _ file)
+    (are_members_beyond _ beyond file (head_of file) i))
+image_line_is beyond name size file (Refused fault) = refused_is_line name file size fault (image_members file) (are_image_members _ file)
 
-pub file_line_is : (all : Bool) (name : List ℕ) (size : ℕ) (file : List ℕ) (outcome : Outcome) → IsLine (file_line all name size file outcome)
-file_line_is all name size file outcome = by (is_object (kind_of file))
+pub file_line_is : (beyond : Option Beyond) (name : List ℕ) (size : ℕ) (file : List ℕ) (outcome : Outcome) → IsLine (file_line beyond name size file outcome)
+file_line_is beyond name size file outcome = by (is_object (kind_of file))
   where
-    by : (b : Bool) → IsLine (if b then object_file_line name file outcome else image_file_line all name size file outcome)
+    by : (b : Bool) → IsLine (if b then object_file_line name file outcome else image_file_line beyond name size file outcome)
     by true = object_line_is name file outcome
-    by false = image_line_is all name size file outcome
+    by false = image_line_is beyond name size file outcome
 
 -- of a file that its first bytes refuse only the fault is told
 pub unread_line_is : (name begin : List ℕ) (size : ℕ) (fault : Fault) → IsLine (refused_line name begin size fault [])

@@ -1,5 +1,5 @@
 -- What a refused image shows of its file.
-use Rattle.std.proofs.Common.{◌≡◌, ℕ, List, [], ◌++◌, None, refl}
+use Rattle.std.proofs.Common.{◌≡◌, ℕ, List, ◌++◌, None, refl}
 use Rattle.std.specs.Prelude.{Option}
 use Rattle.pe_view.specs.Faults.{first_standing}
 use Rattle.coff_read.specs.ImageNames.{image_strings}

@@ -10,8 +10,10 @@ use Rattle.pe_json.specs.JsonText.{with_commas, hex_string, member, object, name
 use Rattle.pe_text.specs.declared.text_writer.TextWriter.{TextWriter}
 use Rattle.pe_text.specs.TextWriter.{IsReady, Adds, TakesNoMore}
 use Rattle.pe_text.proofs.Adding.{◌then◌}
+use Rattle.std.specs.Str.{is_utf8}
+use Rattle.pe_json.specs.CertificateRows.{name_if}
 use Rattle.pe_json.specs.Listed.{is_nil, items_text, more}
-use Rattle.pe_json.specs.Strings.{name_value, value_if, number_value_if, wide_value_if}
+use Rattle.pe_json.specs.Strings.{name_value, name_value_if, value_if, number_value_if, wide_value_if}
 
 -- The member of a name, where a constant stands for its key, colon and quote, and for what stands before the key.
 pub named : (b : Bool) (front key text constant constant_hex : List ℕ) → constant ≡ front ++ quoted key ++ codes ":\"" → constant_hex ≡ front ++ quoted (key ++ codes "_hex") ++ codes ":\""
@@ -92,6 +94,13 @@ wide_given constant key (Some n) is =
     ap (λ (xs : List ℕ). xs ++ digits) is
     ∙ ap (λ (xs : List ℕ). 44 ∷ xs) (append_assoc (quoted key) (codes ":\"0x") digits ∙ sym (append_assoc (quoted key) (codes ":") (codes "\"0x" ++ digits)))
     ∙ sym (append-nil (44 ∷ ((quoted key ++ codes ":") ++ (codes "\"0x" ++ digits))))
+
+-- and of a name
+pub name_given : (constant constant_hex key : List ℕ) (text : Option (List ℕ)) → constant ≡ codes "," ++ quoted key ++ codes ":\"" → constant_hex ≡ codes "," ++ quoted (key ++ codes "_hex") ++ codes ":\""
+    → name_value_if constant constant_hex text ≡ more (name_if key text)
+unfolding name_if more
+name_given constant constant_hex key None is is_hex = refl
+name_given constant constant_hex key (Some text) is is_hex = named (is_utf8 text) (codes ",") key text constant constant_hex is is_hex ∙ sym (append-nil (44 ∷ name_as (is_utf8 text) key text))
 
 -- rows by their numbers, after commas
 pub next_numbered : {Row : Type 0} (row : ℕ → Row → List ℕ) (n : ℕ) (r : Row) (rows : List Row)

@@ -1,8 +1,8 @@
 -- The names of one ordinal among names that are ordered by ordinal: those of the name pointer table, in its order.
-use Rattle.std.proofs.Common.{◌≡◌, ◌∙◌, ◌⊎◌, inl, inr, ℕ, zero, suc, ◌+◌, ◌<◌, ◌≤◌, ◌==◌, ◌&&◌, Bool, true, false, cond, List, [], ◌∷◌, length, map, get_or, refl, sym, ap, arith, nat_cmp, zero-add}
+use Rattle.std.proofs.Common.{◌≡◌, ◌∙◌, ◌⊎◌, inl, inr, ℕ, suc, ◌+◌, ◌<◌, ◌≤◌, ◌==◌, Bool, true, false, cond, List, [], ◌∷◌, length, get_or, refl, sym, ap, arith, nat_cmp, zero-add}
 use Rattle.std.specs.Prelude.{filter, slice_index, ⊤}
 use Rattle.std.specs.Ordering.{is_lt, ordering_then}
-use Rattle.std.specs.List.{range_with_len, sum_by, AllByRecursion, AllPairs}
+use Rattle.std.specs.List.{sum_by, AllByRecursion, AllPairs}
 use Rattle.std.specs.List.Sorted.{IsSortedBy, IsPermutation}
 use Rattle.std.proofs.lemmas.Bool.{cases_order, eqb-true, eq-eqb, ne_eqb}
 use Rattle.std.proofs.lemmas.Cmp.{then_total, on_total, nat_cmp_total}

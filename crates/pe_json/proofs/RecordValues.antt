@@ -1,14 +1,20 @@
 -- What a line says of tables that the profile leaves out is JSON.
-use Rattle.std.proofs.Common.{◌≡◌, ℕ, suc, Bool, true, false, List, [], ◌∷◌, codes, refl, flat_map, Option, None, Some, option_map, length}
+use Rattle.std.proofs.Common.{◌≡◌, ◌+◌, ℕ, suc, Bool, true, false, List, [], ◌∷◌, codes, refl, flat_map, map, Option, None, Some, option_map, length}
 use Rattle.std.specs.Prelude.{⊤, ◌==◌, cond, find, option_and_then, slice_get, if◌then◌else◌}
 use Rattle.std.specs.List.{range_with_len}
 use Rattle.std.proofs.lemmas.Bool.{and_parts}
 use Rattle.pe_head.specs.Names.{Names, name_in}
 use Rattle.pe_head.specs.declared.directory.Directory.{Directory}
+use Rattle.pe_head.specs.declared.headers.Headers.{Headers}
 use Rattle.pe_layout.specs.Image.{LaidOut}
 use Rattle.pe_records.specs.Callbacks.{CallbackTable, addresses, callbacks_of}
 use Rattle.pe_records.specs.CodeView.{CodeView, SevenZero, TwoZero, Other, code_view_of}
-use Rattle.pe_records.specs.Records.{table_bytes}
+use Rattle.pe_records.specs.ArmFunctions.{arm_function_at}
+use Rattle.pe_records.specs.Exceptions.{is_amd64, is_arm}
+use Rattle.pe_records.specs.Functions.{function_at}
+use Rattle.pe_records.specs.Records.{records_in, table_bytes}
+use Rattle.pe_records.specs.declared.arm_function.ArmFunction.{ArmFunction}
+use Rattle.pe_records.specs.declared.function.Function.{Function}
 use Rattle.pe_records.specs.Structure.{field_in}
 use Rattle.pe_records.specs.TableNames.{debug_type_names}
 use Rattle.pe_records.specs.TlsFields.{tls_at}
@@ -19,23 +25,27 @@ use Rattle.pe_records.specs.declared.structure.Width.{Width}
 use Rattle.pe_records.specs.declared.structure.Width.TheVariants.{Two, Four, Address}
 use Rattle.pe_records.specs.declared.tls_directory.TlsDirectory.{TlsDirectory}
 use Rattle.pe_view.specs.declared.fault.Fault.{Fault}
-use Rattle.pe_json.specs.BoundRows.{bound_row, bound_records, bound_members_at, bound_members}
+use Rattle.pe_json.specs.BoundRows.{module_at, module_if, bound_numbers, bound_row, bound_records, bound_members_at, bound_members}
 use Rattle.pe_json.specs.DebugRows.{type_numbers, data_numbers, debug_row, debug_entries, debug_members_at, debug_members}
-use Rattle.pe_json.specs.FindingRows.{image_findings, finding_items, findings_in, findings_members}
-use Rattle.pe_json.specs.FunctionRows.{function_count_in, count_member, function_members_at, function_members}
-use Rattle.pe_json.specs.ImageRecords.{record_members}
+use Rattle.pe_json.specs.FindingRows.{image_findings, finding_row, findings_in, findings_members}
+use Rattle.pe_json.specs.FunctionRows.{function_count_in, count_member, function_row, arm_function_row, rows_in, list_member, listed_if, function_members_at, function_members}
+use Rattle.pe_tables.specs.Imports.{imports_of}
+use Rattle.pe_imphash.specs.ImportText.{import_hash_of}
+use Rattle.pe_json.specs.ImageRecords.{record_members, members_beyond}
 use Rattle.pe_json.specs.JsonText.{number_if, wide_if, wide_string}
 use Rattle.pe_json.specs.PdbRows.{is_code_view, data_at, path_if, code_view_members, pdb_in, pdb_members}
-use Rattle.pe_json.specs.Refused.{fault_object}
 use Rattle.pe_json.specs.StructureKeys.{load_keys, clr_keys}
 use Rattle.pe_json.specs.StructureRows.{structure_key, held_of, fields_of, keys_of, field_value, value_members, keyed_members, member_at, fields_if, structure_members_at, structure_members}
+use Rattle.pe_json.specs.TrustRows.{imphash_if, trust_members}
+use Rattle.pe_json.specs.declared.beyond.Beyond.{Beyond}
 use Rattle.pe_json.specs.TlsRows.{tls_addresses, tls_fields, callback_members, tls_members_at, tls_members}
 use Rattle.pe_json.specs.declared.structure.StructureKind.{StructureKind}
 use Rattle.pe_json.specs.declared.structure.StructureKind.TheVariants.{LoadConfiguration, ClrHeader}
 use Rattle.pe_json.proofs.Printed.{IsValue, AreValues, AreMembers, is_number, items_value, members_value}
-use Rattle.pe_json.proofs.JsonMembers.{IsAsciiText, is_member, number_member, name_member, wide_member, wide_value, hex_value, members_then, flat_values, flat_members, text_members, row_values}
+use Rattle.pe_json.proofs.JsonMembers.{IsAsciiText, is_member, number_member, name_member, wide_member, wide_value, hex_value, members_then, flat_members, text_members, row_values}
 use Rattle.pe_json.proofs.FaultValues.{fault_value}
 use Rattle.pe_json.proofs.ImageValues.{are_ascii_names, named}
+use Rattle.pe_json.proofs.TrustValues.{are_imphash_if, are_trust_members}
 
 -- ---- the debug directory
 types_ascii : are_ascii_names debug_type_names ≡ true
@@ -85,10 +95,39 @@ are_counts : (limit : ℕ) (count : Option ℕ) → AreMembers limit (count_memb
 are_counts limit None = tt
 are_counts limit (Some count) = (number_member _ _ _ refl, tt)
 
-are_function_members : (limit machine : ℕ) (i : LaidOut) (d : Option Directory) → AreMembers limit (function_members_at machine i d)
+function_value : (limit : ℕ) (f : Function) → IsValue (suc limit) (function_row f)
+function_value limit f = members_value limit _ (number_member _ _ _ refl, (number_member _ _ _ refl, (number_member _ _ _ refl, tt)))
+
+arm_function_value : (limit : ℕ) (f : ArmFunction) → IsValue (suc limit) (arm_function_row f)
+arm_function_value limit f = members_value limit _ (number_member _ _ _ refl, (number_member _ _ _ refl, tt))
+
+-- rows are values, if there are any
+abbrev AreRows : ℕ → Option (List (List ℕ)) → Type 0
+AreRows limit None = ⊤
+AreRows limit (Some rows) = AreValues limit rows
+
+are_rows_in : (limit machine : ℕ) (bytes : List ℕ) → AreRows (suc limit) (rows_in machine bytes)
+are_rows_in limit machine bytes = by (is_amd64 machine) (is_arm machine)
+  where
+    by : (amd64 arm : Bool) → AreRows (suc limit)
+        (if amd64 then Some (map function_row (records_in function_at 12 bytes)) else (if arm then Some (map arm_function_row (records_in arm_function_at 8 bytes)) else None))
+    by true arm = row_values (suc limit) function_row (records_in function_at 12 bytes) (function_value limit)
+    by false true = row_values (suc limit) arm_function_row (records_in arm_function_at 8 bytes) (arm_function_value limit)
+    by false false = tt
+
+are_listed : (limit : ℕ) (listed : Bool) (rows : Option (List (List ℕ))) → AreRows limit rows → AreMembers (suc limit) (listed_if listed rows)
+unfolding list_member
+are_listed limit false rows h = tt
+are_listed limit true None h = tt
+are_listed limit true (Some rows) h = (is_member _ _ _ refl (items_value limit rows h), tt)
+
+are_function_members : (limit : ℕ) (listed : Bool) (machine : ℕ) (i : LaidOut) (d : Option Directory) → AreMembers (suc (suc limit)) (function_members_at listed machine i d)
 unfolding function_members_at
-are_function_members limit machine i None = tt
-are_function_members limit machine i (Some d) = are_counts limit (function_count_in machine (table_bytes i (i.directory 3)))
+are_function_members limit listed machine i None = tt
+are_function_members limit listed machine i (Some d) =
+    let bytes = table_bytes i (i.directory 3) in
+    members_then _ (count_member (function_count_in machine bytes)) (listed_if listed (rows_in machine bytes)) (are_counts _ (function_count_in machine bytes))
+    (are_listed _ listed (rows_in machine bytes) (are_rows_in limit machine bytes))
 
 -- ---- the TLS directory
 are_numbers : (limit : ℕ) (key : List ℕ) (n : Option ℕ) → IsAsciiText key → AreMembers limit (number_if key n)
@@ -180,39 +219,46 @@ are_structure_members limit kind i (Some d) =
     (is_member _ (structure_key kind) _ (structure_ascii kind) (members_value limit _ (number_member _ _ _ refl, are_fields limit kind i.slot_width (held_of kind i))), tt)
 
 -- ---- bound imports
-bound_value : (limit : ℕ) (b : BoundImport) → IsValue (suc limit) (bound_row b)
-unfolding bound_row
-bound_value limit b = members_value limit _ (number_member _ _ _ refl, (number_member _ _ _ refl, (number_member _ _ _ refl, tt)))
+are_bound_numbers : (limit : ℕ) (b : BoundImport) → AreMembers limit (bound_numbers b)
+unfolding bound_numbers
+are_bound_numbers limit b = (number_member _ _ _ refl, (number_member _ _ _ refl, tt))
+
+are_modules : (limit : ℕ) (text : Option (List ℕ)) → AreMembers limit (module_if text)
+unfolding module_if
+are_modules limit None = tt
+are_modules limit (Some text) = (name_member _ _ _ refl refl, tt)
+
+bound_value : (limit : ℕ) (i : LaidOut) (start : ℕ) (b : BoundImport) → IsValue (suc limit) (bound_row i start b)
+bound_value limit i start b =
+    members_value limit _ (
+      number_member _ _ _ refl,
+      members_then _ (bound_numbers b) _ (are_bound_numbers _ b) (are_modules _ (module_at i (start + b.offset_module_name))),
+    )
 
 are_bound_members : (limit : ℕ) (i : LaidOut) (d : Option Directory) → AreMembers (suc (suc limit)) (bound_members_at i d)
 unfolding bound_members_at
 are_bound_members limit i None = tt
-are_bound_members limit i (Some d) = (is_member _ _ _ refl (items_value (suc limit) _ (row_values (suc limit) bound_row (bound_records i) (bound_value limit))), tt)
+are_bound_members limit i (Some d) = (is_member _ _ _ refl (items_value (suc limit) _ (row_values (suc limit) (bound_row i d.rva) (bound_records i) (bound_value limit i d.rva))), tt)
 
 -- ---- findings
-are_finding_items : (limit : ℕ) (f : Fault) → AreValues (suc (suc limit)) (finding_items f)
-are_finding_items limit f = by (f.number == 103)
-  where
-    by : (b : Bool) → AreValues (suc (suc limit)) (if b then [] else fault_object f None ∷ [])
-    by true = tt
-    by false = (fault_value limit f None, tt)
-
-are_findings_in : (limit : ℕ) (items : List (List ℕ)) → AreValues limit items → AreMembers (suc limit) (findings_in items)
-are_findings_in limit [] h = tt
-are_findings_in limit (item ∷ items) h = (is_member _ _ _ refl (items_value limit (item ∷ items) h), tt)
-
-are_findings_members : (limit machine : ℕ) (i : LaidOut) → AreMembers (suc (suc (suc limit))) (findings_members machine i)
-are_findings_members limit machine i =
-    are_findings_in _ (flat_map finding_items (image_findings machine i)) (flat_values _ finding_items (image_findings machine i) (are_finding_items limit))
+are_findings_in : (limit : ℕ) (fs : List Fault) → AreMembers (suc (suc (suc limit))) (findings_in fs)
+unfolding findings_in
+are_findings_in limit [] = tt
+are_findings_in limit (f ∷ fs) = (is_member _ _ _ refl (items_value _ _ (row_values _ finding_row (f ∷ fs) (λ f. fault_value limit f None))), tt)
 
 -- ---- all of them
-pub are_record_members : (limit machine : ℕ) (i : LaidOut) → AreMembers (suc (suc (suc limit))) (record_members machine i)
-are_record_members limit machine i =
+are_record_members : (limit : ℕ) (functions : Bool) (machine : ℕ) (i : LaidOut) → AreMembers (suc (suc limit)) (record_members functions machine i)
+are_record_members limit functions machine i =
     members_then _ (debug_members i) _ (are_debug_members _ i (i.directory 6))
     (members_then _ (pdb_members i) _ (are_pdb_members _ (option_and_then (data_at i) (find is_code_view (debug_entries i))))
-    (members_then _ (function_members machine i) _ (are_function_members _ machine i (i.directory 3))
+    (members_then _ (function_members functions machine i) _ (are_function_members _ functions machine i (i.directory 3))
     (members_then _ (tls_members i) _ (are_tls_members _ i (i.directory 9))
     (members_then _ (structure_members LoadConfiguration i) _ (are_structure_members _ LoadConfiguration i (i.directory 10))
-    (members_then _ (bound_members i) _ (are_bound_members _ i (i.directory 11))
-    (members_then _ (structure_members ClrHeader i) (findings_members machine i) (are_structure_members _ ClrHeader i (i.directory 14))
-    (are_findings_members limit machine i)))))))
+    (members_then _ (bound_members i) (structure_members ClrHeader i) (are_bound_members _ i (i.directory 11)) (are_structure_members _ ClrHeader i (i.directory 14)))))))
+
+pub are_members_beyond : (limit : ℕ) (beyond : Option Beyond) (file : List ℕ) (h : Headers) (i : LaidOut) → AreMembers (suc (suc (suc (suc limit)))) (members_beyond beyond file h i)
+are_members_beyond limit None file h i = tt
+are_members_beyond limit (Some b) file h i =
+    members_then _ (record_members b.functions h.machine i) _ (are_record_members _ b.functions h.machine i)
+    (members_then _ (trust_members b.digests file h) _ (are_trust_members limit b.digests file h)
+    (members_then _ (imphash_if (import_hash_of (imports_of i))) (findings_members file h i) (are_imphash_if _ (import_hash_of (imports_of i))) (are_findings_in _ (image_findings file h i))))

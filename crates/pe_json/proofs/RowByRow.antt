@@ -1,23 +1,17 @@
 -- The rows of a list, written one after the other.
-use Rattle.std.proofs.Common.{◌≡◌, ◌∙◌, ◌==◌, ◌&&◌, ℕ, zero, suc, ◌+◌, ◌*◌, ◌<◌, ◌≤◌, Bool, true, false, List, [], ◌∷◌, ◌++◌, length, take, drop, map, get_or, add-one, Option, Some, None, codes, refl, sym, ap, arith, take-append-drop, append_assoc}
+use Rattle.std.proofs.Common.{◌≡◌, ◌∙◌, ◌==◌, ℕ, zero, suc, ◌+◌, ◌*◌, ◌<◌, ◌≤◌, Bool, true, false, List, [], ◌∷◌, ◌++◌, length, take, drop, map, get_or, add-one, Some, codes, refl, sym, ap, arith, take-append-drop, append_assoc}
 use Rattle.std.specs.Prelude.{slice_get}
-use Rattle.std.specs.List.{range_with_len}
 use Rattle.std.proofs.lemmas.Bool.{ne_eqb, lt-ltb}
-use Rattle.std.proofs.lemmas.List.FromFn.{get_or-map-range_with_len}
-use Rattle.std.proofs.Common.{zero-add}
 use Rattle.coff_read.specs.Auxiliary.{AuxRecord, aux_of, aux_record}
 use Rattle.coff_read.specs.Headers.{section_header}
 use Rattle.coff_read.specs.Reading.{section_in}
 use Rattle.coff_read.specs.Records.{Section, Symbol, aux_records}
 use Rattle.pe_head.specs.declared.section.SectionHeader.{SectionHeader}
 use Rattle.pe_view.specs.Number.{part}
-use Rattle.pe_text.specs.TextWriter.{Adds, TakesNoMore}
-use Rattle.pe_text.specs.declared.text_writer.TextWriter.{TextWriter}
-use Rattle.pe_text.proofs.Adding.{◌then◌}
 use Rattle.pe_json.specs.JsonText.{member, numbered_rows}
 use Rattle.pe_json.specs.Listed.{is_nil, items_text, more}
-use Rattle.pe_json.specs.ObjectLine.{aux_row, aux_row_at, aux_list, aux_list_members}
-use Rattle.pe_json.proofs.Objects.{items_more, items_none}
+use Rattle.pe_json.specs.ObjectLine.{aux_list, aux_list_members}
+use Rattle.pe_json.proofs.Objects.{items_more}
 
 take_suc : (rows : List (List ℕ)) (i : ℕ) (row : List ℕ) → i < length rows → take (suc i) rows ≡ take i rows ++ get_or rows i row ∷ []
 take_suc [] i row below = absurd (omega arith)
@@ -36,6 +30,12 @@ row_next rows i row below is =
     ap (items_text true) (ap (λ (n : ℕ). take n rows) (add-one i) ∙ take_suc rows i row below ∙ ap (λ (r : List ℕ). take i rows ++ r ∷ []) is)
     ∙ items_more true (take i rows) (row ∷ [])
     ∙ ap (λ (first : Bool). items_text true (take i rows) ++ items_text first (row ∷ [])) (nothing_taken rows i below)
+
+-- a row that is there, whatever stands for one that is not
+pub row_at : (rows : List (List ℕ)) (i : ℕ) (d : List ℕ) → i < length rows → get_or rows i d ≡ get_or rows i []
+row_at [] i d below = absurd (omega arith)
+row_at (r ∷ rows) zero d below = refl
+row_at (r ∷ rows) (suc i) d below = row_at rows i d (omega arith)
 
 -- the rows that are not written yet
 pub rows_rest : (rows : List (List ℕ)) (i : ℕ) → items_text true (take i rows) ++ items_text (is_nil (take i rows)) (drop i rows) ≡ items_text true rows
@@ -56,6 +56,15 @@ mapped_at row (y ∷ xs) zero x d is = ap row (sym (some_is x y is))
     some_is : {X : Type 0} (a b : X) → Some a ≡ Some b → a ≡ b
     some_is a b e = cc
 mapped_at row (y ∷ xs) (suc i) x d is = mapped_at row xs i x d is
+
+-- the rows of what comes one by one: one more, none that is left, and that the next is not the first
+pub row_more : {X : Type 0} (row : X → List ℕ) (written : List (List ℕ)) (x : X) (now left : List X) (all : List (List ℕ)) → now ≡ x ∷ left → written ++ map row now ≡ all
+    → (written ++ row x ∷ []) ++ map row left ≡ all
+row_more {X = X} row written x now left all is old = append_assoc written (row x ∷ []) (map row left) ∙ ap (λ (xs : List X). written ++ map row xs) (sym is) ∙ old
+
+pub not_first : (written : List (List ℕ)) (row : List ℕ) → false ≡ is_nil (written ++ row ∷ [])
+not_first [] row = refl
+not_first (r ∷ written) row = refl
 
 -- the auxiliary record that was found
 pub record_told : (s : Symbol) (k : ℕ) (aux : AuxRecord) → k < aux_records s → Some aux ≡ aux_record s k → aux ≡ aux_of s (part s.aux (18 * k) 18)

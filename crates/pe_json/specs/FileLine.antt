@@ -1,8 +1,7 @@
--- The line of a file: what `json` tells of an object or an image without a fault, or of a refused file. `all` asks for the tables that an
--- image's profile leaves out.
-use Rattle.std.specs.Prelude.{ℕ, Bool, true, false, List, [], ◌++◌, length, is_none, if◌then◌else◌}
+-- The line of a file: what `json` tells of an object or an image without a fault, or of a refused file. `beyond` asks for what is told of
+-- an image beyond its profile.
+use Rattle.std.specs.Prelude.{ℕ, List, [], ◌++◌, length, Option, is_none, if◌then◌else◌}
 use Rattle.pe_view.specs.Faults.{first_standing}
-use Rattle.pe_view.specs.declared.fault.Fault.{Fault}
 use Rattle.pe_head.specs.Head.{head_of}
 use Rattle.pe_head.specs.HeaderFaults.{head_tests}
 use Rattle.pe_layout.specs.Image.{LaidOut, image_of_file}
@@ -18,25 +17,21 @@ use Rattle.coff_read.specs.ImageNames.{image_strings}
 use Rattle.pe_text.specs.FileKind.{kind_of, is_object}
 use Rattle.pe_text.specs.declared.outcome.Outcome.{Outcome}
 use Rattle.pe_text.specs.declared.outcome.Outcome.TheVariants.{Done, Refused}
-use Rattle.pe_json.specs.ImageRecords.{record_members}
+use Rattle.pe_json.specs.ImageRecords.{members_beyond}
 use Rattle.pe_json.specs.ImageLine.{image_line, head_members}
+use Rattle.pe_json.specs.declared.beyond.Beyond.{Beyond}
 use Rattle.pe_json.specs.ObjectLine.{object_line}
 use Rattle.pe_json.specs.Refused.{refused_line, exports_if, imports_if, fixups_if}
 
 -- ---- a file without a fault
--- the members of the tables that the profile leaves out, if all are asked for
-abbrev pub told_records : Bool → ℕ → LaidOut → List (List ℕ)
-told_records true machine i = record_members machine i
-told_records false machine i = []
-
 -- that of an image, from its headers and what they lay out
-abbrev pub accepted_image : Bool → List ℕ → List ℕ → LaidOut → List ℕ
-accepted_image all name file i =
-    image_line name (image_strings file (head_of file)) (head_of file) (exports_of i) (imports_of i) (fixups_of i) (told_records all (head_of file).machine i)
+abbrev pub accepted_image : Option Beyond → List ℕ → List ℕ → LaidOut → List ℕ
+accepted_image beyond name file i =
+    image_line name (image_strings file (head_of file)) (head_of file) (exports_of i) (imports_of i) (fixups_of i) (members_beyond beyond file (head_of file) i)
 
 -- the same for a file
-abbrev pub accepted_line : Bool → List ℕ → List ℕ → List ℕ
-accepted_line all name file = if is_object (kind_of file) then object_line name file else accepted_image all name file (image_of_file 0 file)
+abbrev pub accepted_line : Option Beyond → List ℕ → List ℕ → List ℕ
+accepted_line beyond name file = if is_object (kind_of file) then object_line name file else accepted_image beyond name file (image_of_file 0 file)
 
 -- ---- a refused file
 -- each table of an image that has no fault; base relocations, if the imports have none either
@@ -61,10 +56,10 @@ object_file_line name file Done = object_line name file
 object_file_line name file (Refused fault) = refused_line name file (length file) fault []
 
 -- the line of an image's file of a size of which these bytes were read
-abbrev pub image_file_line : Bool → List ℕ → ℕ → List ℕ → Outcome → List ℕ
-image_file_line all name size file Done = accepted_image all name file (image_of_file 0 file)
-image_file_line all name size file (Refused fault) = refused_line name file size fault (image_members file)
+abbrev pub image_file_line : Option Beyond → List ℕ → ℕ → List ℕ → Outcome → List ℕ
+image_file_line beyond name size file Done = accepted_image beyond name file (image_of_file 0 file)
+image_file_line beyond name size file (Refused fault) = refused_line name file size fault (image_members file)
 
 -- the line of a file
-abbrev pub file_line : Bool → List ℕ → ℕ → List ℕ → Outcome → List ℕ
-file_line all name size file outcome = if is_object (kind_of file) then object_file_line name file outcome else image_file_line all name size file outcome
+abbrev pub file_line : Option Beyond → List ℕ → ℕ → List ℕ → Outcome → List ℕ
+file_line beyond name size file outcome = if is_object (kind_of file) then object_file_line name file outcome else image_file_line beyond name size file outcome

@@ -1,25 +1,32 @@
--- The findings of an image's tables in a line of JSON.
-use Rattle.std.specs.Prelude.{ℕ, ◌==◌, List, [], ◌∷◌, codes, flat_map, None, if◌then◌else◌}
+-- The findings of an image's tables and of its file in a line of JSON.
+use Rattle.std.specs.Prelude.{ℕ, List, [], ◌∷◌, ◌++◌, codes, flat_map, map, Option, None, Some}
+use Rattle.pe_head.specs.declared.headers.Headers.{Headers}
 use Rattle.pe_layout.specs.Image.{LaidOut}
 use Rattle.pe_records.specs.FindingTests.{finding_tests}
 use Rattle.pe_records.specs.Standing.{standing}
+use Rattle.pe_trust.specs.CertificateTests.{certificate_findings_of}
+use Rattle.pe_trust.specs.RichTests.{rich_finding_of}
 use Rattle.pe_view.specs.declared.fault.Fault.{Fault}
 use Rattle.pe_json.specs.JsonText.{member, list}
 use Rattle.pe_json.specs.Refused.{fault_object}
 
--- the findings that the laid-out image decides: nothing is looked for at a file offset, so none says that a CodeView path, which is
--- found by one, has no end (105)
-abbrev pub image_findings : ℕ → LaidOut → List Fault
-image_findings machine i = standing (finding_tests machine i [])
+-- a finding, if there is one
+abbrev pub found : Option Fault → List Fault
+found None = []
+found (Some f) = f ∷ []
 
--- a finding, unless it says that debug data passes the end of the file (103): data at a file offset may be after the bytes that are read
-abbrev pub finding_items : Fault → List (List ℕ)
-finding_items f = if f.number == 103 then [] else fault_object f None ∷ []
+-- those of the tables, then those of the certificate table, and then that of the Rich header
+abbrev pub image_findings : List ℕ → Headers → LaidOut → List Fault
+image_findings file h i =
+    standing (finding_tests h.machine i file) ++ (flat_map found (certificate_findings_of 0 file h) ++ found (rich_finding_of 0 file h.pe_offset))
 
--- the member that lists them, if there are any
-abbrev pub findings_in : List (List ℕ) → List (List ℕ)
+abbrev pub finding_row : Fault → List ℕ
+finding_row f = fault_object f None
+
+-- the member that lists findings, if there are any
+unfoldable pub findings_in : List Fault → List (List ℕ)
 findings_in [] = []
-findings_in (item ∷ items) = member (codes "findings") (list (item ∷ items)) ∷ []
+findings_in (f ∷ fs) = member (codes "findings") (list (map finding_row (f ∷ fs))) ∷ []
 
-abbrev pub findings_members : ℕ → LaidOut → List (List ℕ)
-findings_members machine i = findings_in (flat_map finding_items (image_findings machine i))
+abbrev pub findings_members : List ℕ → Headers → LaidOut → List (List ℕ)
+findings_members file h i = findings_in (image_findings file h i)

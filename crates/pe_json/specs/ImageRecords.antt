@@ -1,6 +1,9 @@
--- The tables of an image that its profile leaves out, in a line of JSON.
-use Rattle.std.specs.Prelude.{ℕ, List, ◌++◌}
+-- What a line of JSON tells of an image beyond its profile.
+use Rattle.std.specs.Prelude.{ℕ, Bool, List, [], ◌++◌, Option, None, Some}
+use Rattle.pe_head.specs.declared.headers.Headers.{Headers}
 use Rattle.pe_layout.specs.Image.{LaidOut}
+use Rattle.pe_tables.specs.Imports.{imports_of}
+use Rattle.pe_imphash.specs.ImportText.{import_hash_of}
 use Rattle.pe_json.specs.BoundRows.{bound_members}
 use Rattle.pe_json.specs.DebugRows.{debug_members}
 use Rattle.pe_json.specs.FindingRows.{findings_members}
@@ -8,13 +11,26 @@ use Rattle.pe_json.specs.FunctionRows.{function_members}
 use Rattle.pe_json.specs.PdbRows.{pdb_members}
 use Rattle.pe_json.specs.StructureRows.{structure_members}
 use Rattle.pe_json.specs.TlsRows.{tls_members}
+use Rattle.pe_json.specs.TrustRows.{imphash_if, trust_members}
+use Rattle.pe_json.specs.declared.beyond.Beyond.{Beyond}
 use Rattle.pe_json.specs.declared.structure.StructureKind.TheVariants.{LoadConfiguration, ClrHeader}
 
--- the members of an image for this machine: those of a table are there if its directory is, and then what is found in the tables
-abbrev pub record_members : ℕ → LaidOut → List (List ℕ)
-record_members machine i =
+-- the members of an image for this machine: those of a table are there if its directory is
+abbrev pub record_members : Bool → ℕ → LaidOut → List (List ℕ)
+record_members functions machine i =
     debug_members i
     ++ (pdb_members i
-    ++ (function_members machine i
+    ++ (function_members functions machine i
     ++ (tls_members i
-    ++ (structure_members LoadConfiguration i ++ (bound_members i ++ (structure_members ClrHeader i ++ findings_members machine i))))))
+    ++ (structure_members LoadConfiguration i ++ (bound_members i ++ structure_members ClrHeader i)))))
+
+-- what is told beyond the profile: these tables, what the file says of itself, and what is found in both
+abbrev pub beyond_members : Beyond → List ℕ → Headers → LaidOut → List (List ℕ)
+beyond_members b file h i =
+    record_members b.functions h.machine i
+    ++ (trust_members b.digests file h ++ (imphash_if (import_hash_of (imports_of i)) ++ findings_members file h i))
+
+-- the same, if it is asked for
+abbrev pub members_beyond : Option Beyond → List ℕ → Headers → LaidOut → List (List ℕ)
+members_beyond None file h i = []
+members_beyond (Some b) file h i = beyond_members b file h i

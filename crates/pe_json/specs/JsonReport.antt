@@ -13,6 +13,7 @@ use Rattle.pe_text.specs.FileKind.{tests_by_kind}
 use Rattle.pe_text.specs.Outcome.{IsOutcomeOf}
 use Rattle.pe_reach.specs.Sized.{IsKnown}
 use Rattle.pe_reach.specs.Views.{IsViewed}
+use Rattle.pe_json.specs.declared.beyond.Beyond.{Beyond}
 use Rattle.pe_json.specs.FileLine.{accepted_line, file_line}
 use Rattle.pe_json.specs.Refused.{refused_line}
 
@@ -21,39 +22,39 @@ abbrev pub file_tests : List ℕ → List Test
 file_tests file = tests_by_kind file (object_tests file) (image_tests 0 file)
 
 -- the outcome and the line of a file of a size with this name, of which these bytes were read
-abbrev pub IsLine : Bool → List ℕ → ℕ → List ℕ → Outcome → List ℕ → Type 0
-IsLine all name size file outcome text = IsOutcomeOf (file_tests file) outcome × (text ≡ file_line all name size file outcome)
+abbrev pub IsLine : Option Beyond → List ℕ → ℕ → List ℕ → Outcome → List ℕ → Type 0
+IsLine beyond name size file outcome text = IsOutcomeOf (file_tests file) outcome × (text ≡ file_line beyond name size file outcome)
 
 -- those of a file that was read whole
-abbrev pub IsLineOf : Bool → List ℕ → List ℕ → Outcome → List ℕ → Type 0
-IsLineOf all name file = IsLine all name (length file) file
+abbrev pub IsLineOf : Option Beyond → List ℕ → List ℕ → Outcome → List ℕ → Type 0
+IsLineOf beyond name file = IsLine beyond name (length file) file
 
 -- those of a file that the bytes which were read refuse by a fault: the line says nothing else of it
 abbrev pub IsUnreadLine : List ℕ → ℕ → List ℕ → Fault → Outcome → List ℕ → Type 0
 IsUnreadLine name size file fault outcome text = (outcome ≡ Refused fault) × (text ≡ refused_line name file size fault [])
 
 -- those of a file, by the fault for which no more of it was read
-abbrev pub IsViewLine : Bool → List ℕ → ℕ → List ℕ → Option Fault → Outcome → List ℕ → Type 0
-IsViewLine all name size file None outcome text = IsLine all name size file outcome text
-IsViewLine all name size file (Some fault) outcome text = IsUnreadLine name size file fault outcome text
+abbrev pub IsViewLine : Option Beyond → List ℕ → ℕ → List ℕ → Option Fault → Outcome → List ℕ → Type 0
+IsViewLine beyond name size file None outcome text = IsLine beyond name size file outcome text
+IsViewLine beyond name size file (Some fault) outcome text = IsUnreadLine name size file fault outcome text
 
 -- an outcome is that of a file, and so is the text if the file has no fault
-abbrev pub IsTold : Bool → List ℕ → Outcome → List ℕ → List ℕ → Type 0
-IsTold all name Done text file = (first_standing (file_tests file) ≡ None) × (text ≡ accepted_line all name file)
-IsTold all name (Refused fault) text file = first_standing (file_tests file) ≡ Some fault
+abbrev pub IsTold : Option Beyond → List ℕ → Outcome → List ℕ → List ℕ → Type 0
+IsTold beyond name Done text file = (first_standing (file_tests file) ≡ None) × (text ≡ accepted_line beyond name file)
+IsTold beyond name (Refused fault) text file = first_standing (file_tests file) ≡ Some fault
 
 -- What the engine read and wrote over a file of a known size. The line is that of what it read of the file, whose size it tells as
 -- `told`; and if it has no fault, that of each file of the size that begins so. `refused` is the fault by which the first bytes
 -- refuse the file, if no more were read because of it.
-pub record RanSized (all : Bool) (name : List ℕ) (len : ℕ) (given given' taken taken' : List ℕ) (ended : Bool) (result : Result Outcome ToolError) : Type 0 where
+pub record RanSized (beyond : Option Beyond) (name : List ℕ) (len : ℕ) (given given' taken taken' : List ℕ) (ended : Bool) (result : Result Outcome ToolError) : Type 0 where
   pub input : List ℕ
   pub told : ℕ
   pub refused : Option Fault
   pub written : List ℕ
   pub reads : given' ≡ given ++ input
   pub writes : taken' ≡ taken ++ written
-  pub text : Written (IsViewLine all name told input refused) result written
-  pub known : IfOk result (λ outcome. IsKnown ended len input (IsTold all name outcome written))
+  pub text : Written (IsViewLine beyond name told input refused) result written
+  pub known : IfOk result (λ outcome. IsKnown ended len input (IsTold beyond name outcome written))
   pub seen : OnJudged result (IsViewed ended len input told refused)
   pub limit : length input ≤ 2 ^ 32 + 1
   pub memory : IsErrOf result Memory → 0 < length input

@@ -7,6 +7,7 @@ pub use Rattle.pe_text.specs.Engine
 pub use Rattle.pe_text.specs.FileKind
 pub use Rattle.pe_text.specs.Outcome
 pub mod BoundRows
+pub mod CertificateRows
 pub mod DebugRows
 pub mod ExportRows
 pub mod FileLine
@@ -24,10 +25,12 @@ pub mod Listed
 pub mod ObjectLine
 pub mod PdbRows
 pub mod Refused
+pub mod RichRows
 pub mod Sections
 pub mod Strings
 pub mod StructureKeys
 pub mod StructureRows
 pub mod TableRows
 pub mod TlsRows
+pub mod TrustRows
 pub mod Value

@@ -1,5 +1,5 @@
 -- The PDB file of an image in a line of JSON: that of the first CodeView record of its debug directory.
-use Rattle.std.specs.Prelude.{ℕ, ◌==◌, ◌||◌, Bool, nat_lt, List, [], ◌∷◌, ◌++◌, codes, find, option_and_then, Option, None, Some, if◌then◌else◌}
+use Rattle.std.specs.Prelude.{ℕ, ◌==◌, ◌||◌, Bool, nat_lt, List, [], ◌∷◌, codes, find, option_and_then, Option, None, Some, if◌then◌else◌}
 use Rattle.pe_layout.specs.Image.{LaidOut, bytes_at}
 use Rattle.pe_records.specs.CodeView.{CodeView, SevenZero, TwoZero, Other, code_view_of}
 use Rattle.pe_records.specs.declared.debug.DebugEntry.{DebugEntry}

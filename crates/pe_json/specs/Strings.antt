@@ -1,5 +1,6 @@
 -- What the strings of JSON are made of.
 use Rattle.std.specs.Prelude.{ℕ, Bool, true, false, List, [], ◌++◌, codes, decimal, flat_map, Option, None, Some, not, nat_le, ◌==◌, ◌&&◌}
+use Rattle.std.specs.Str.{is_utf8}
 use Rattle.json.specs.Print.{escape, quoted}
 use Rattle.pe_text.specs.Text.{hex, hex_at_least}
 
@@ -11,6 +12,11 @@ is_plain byte = nat_le 0x20 byte && not (byte == 0x22) && not (byte == 0x5c)
 abbrev pub name_value : Bool → List ℕ → List ℕ → List ℕ → List ℕ
 name_value true key key_hex text = key ++ escape text ++ codes "\""
 name_value false key key_hex text = key_hex ++ flat_map (hex 2) text ++ codes "\""
+
+-- a name behind the one key or the other, if there is one
+abbrev pub name_value_if : List ℕ → List ℕ → Option (List ℕ) → List ℕ
+name_value_if key key_hex None = []
+name_value_if key key_hex (Some text) = name_value (is_utf8 text) key key_hex text
 
 -- a string after a key, if there is one
 abbrev pub value_if : List ℕ → Option (List ℕ) → List ℕ

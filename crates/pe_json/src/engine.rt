@@ -1,6 +1,6 @@
 //! `json`: the engine of `petool json`, which checks a file as an image or an object and writes its line.
 
-ghost use Rattle.std.specs.Prelude.{◌≡◌, ◌-◌, ◌^◌, ◌<◌, ◌↔◌, length, None, Some, IfOk, IfSome, OnErr, IsErrOf};
+ghost use Rattle.std.specs.Prelude.{◌≡◌, ◌-◌, ◌^◌, ◌<◌, ◌≤◌, ◌↔◌, length, None, Some, IfOk, IfSome, OnErr, IsErrOf};
 ghost use Rattle.coff_read.specs.ObjectFaults.{object_tests};
 ghost use Rattle.pe_image.specs.ImageOf.{IsImageOf};
 ghost use Rattle.pe_image.specs.ImageTests.{image_tests};
@@ -17,6 +17,8 @@ ghost use Rattle.pe_text.specs.Outcome.{IsOutcomeOf};
 ghost use Rattle.pe_text.specs.TextWriter.{IsReady, Adds};
 ghost use Rattle.pe_view.specs.Faults.{first_standing};
 
+use crate::beyond::Beyond;
+use crate::findings::findings_of;
 use crate::image::{Content, write_image, write_plain_image};
 use crate::object::write_object;
 use crate::refused::{refuse, refuse_laid_out, refuse_unlaid};
@@ -24,11 +26,10 @@ use coff_read::ObjectFile;
 use pe_image::Image;
 use pe_layout::Layout;
 use pe_reach::laws::faults_agree;
-use pe_reach::{ViewFile, read_view, read_whole_tables};
-use pe_records::findings;
+use pe_reach::{ViewFile, read_rest, read_view, read_whole_tables};
 use pe_tables::{Exports, NamesByOrdinal, TableError};
 use pe_text::{Outcome, Sink, Source, TextWriter, ToolError, read_whole};
-use pe_view::{Fault, View};
+use pe_view::Fault;
 use std::alloc::{AllocError, Allocator};
 
 /// Checks an object, and adds its line.
@@ -113,21 +114,21 @@ fn write_refused<A: Allocator + Copy, W: Sink>(
     }
 }
 
-/// Adds the line of an image without a fault, with the tables that its profile leaves out if all are asked for. All memory is taken
-/// before its first byte. Of the findings those are told that the laid-out image decides: the data that an entry of the debug
-/// directory names by a file offset may not have been read.
+/// Adds the line of an image without a fault, with what is told beyond its profile if that is asked for. All memory is taken before its
+/// first byte.
 fn write_accepted<A: Allocator + Copy, W: Sink>(
     alloc: A,
     text: &mut TextWriter<W>,
     name: &[u8],
-    all: bool,
+    beyond: Option<Beyond>,
     file: ViewFile,
     image: &Image<A>,
 ) -> Result<(), AllocError>
     requires ready { IsReady W.failures text.old }
     requires image { IsImageOf 0 (seen_of file) image.now }
+    requires small { length (seen_of file) ≤ 2 ^ 32 }
     ensures adds { IfOk result (λ _. Adds W.taken W.failures text.old text.new
-        (image_file_line all name.now (told_of file.entry) (seen_of file.entry) Outcome.Done)) }
+        (image_file_line beyond name.now (told_of file.entry) (seen_of file.entry) Outcome.Done)) }
     ensures same { text.new.writer.ghost_name ≡ text.old.writer.ghost_name }
     ensures unwritten { OnErr result (text.new.writer.now ≡ text.old.writer.now) }
 {
@@ -141,12 +142,13 @@ fn write_accepted<A: Allocator + Copy, W: Sink>(
         imports: &image.imports,
         fixups: &image.fixups,
     };
-    if !all {
+    let Some(beyond) = beyond else {
         write_plain_image(text, name, content);
         return Ok(());
-    }
-    let found = findings(alloc, &image.layout, View::new(&[]))?;
-    write_image(text, name, content, &image.layout, &found);
+    };
+    let bytes = file.beginning();
+    let found = findings_of(alloc, &image.layout, bytes)?;
+    write_image(text, name, content, beyond, bytes, &image.layout, &found);
     Ok(())
 }
 
@@ -155,20 +157,20 @@ fn write_image_line<A: Allocator + Copy, W: Sink>(
     alloc: A,
     text: &mut TextWriter<W>,
     name: &[u8],
-    all: bool,
+    beyond: Option<Beyond>,
     file: ViewFile,
 ) -> Result<Outcome, AllocError>
     requires { IsReady W.failures text.old }
     ensures verdict { IfOk result (IsOutcomeOf (image_tests 0 (seen_of file.entry))) }
     ensures adds { IfOk result (λ outcome. Adds W.taken W.failures text.old text.new
-        (image_file_line all name.now (told_of file.entry) (seen_of file.entry) outcome)) }
+        (image_file_line beyond name.now (told_of file.entry) (seen_of file.entry) outcome)) }
     ensures same { text.new.writer.ghost_name ≡ text.old.writer.ghost_name }
     ensures unwritten { OnErr result (text.new.writer.now ≡ text.old.writer.now) }
     ensures memory { OnErr result (0 < length (seen_of file.entry)) }
 {
     match file.read_image(alloc) {
         Ok(image) => {
-            write_accepted(alloc, text, name, all, file, &image)?;
+            write_accepted(alloc, text, name, beyond, file, &image)?;
             Ok(Outcome::Done)
         }
         Err(TableError::Fault(fault)) => {
@@ -184,20 +186,20 @@ fn write_line<A: Allocator + Copy, W: Sink>(
     alloc: A,
     text: &mut TextWriter<W>,
     name: &[u8],
-    all: bool,
+    beyond: Option<Beyond>,
     file: ViewFile,
 ) -> Result<Outcome, AllocError>
     requires { IsReady W.failures text.old }
     ensures verdict { IfOk result (IsOutcomeOf (file_tests (seen_of file.entry))) }
     ensures adds { IfOk result (λ outcome. Adds W.taken W.failures text.old text.new
-        (file_line all name.now (told_of file.entry) (seen_of file.entry) outcome)) }
+        (file_line beyond name.now (told_of file.entry) (seen_of file.entry) outcome)) }
     ensures same { text.new.writer.ghost_name ≡ text.old.writer.ghost_name }
     ensures unwritten { OnErr result (text.new.writer.now ≡ text.old.writer.now) }
     ensures memory { OnErr result (0 < length (seen_of file.entry)) }
 {
     match file.object() {
         Some(object) => Ok(write_object_line(text, name, object)),
-        None => write_image_line(alloc, text, name, all, file),
+        None => write_image_line(alloc, text, name, beyond, file),
     }
 }
 
@@ -206,16 +208,16 @@ fn print_line<A: Allocator + Copy, W: Sink>(
     alloc: A,
     writer: &mut W,
     name: &[u8],
-    all: bool,
+    beyond: Option<Beyond>,
     file: ViewFile,
 ) -> Result<Outcome, ToolError>
     requires { W.failures writer.old < 2 ^ 64 - 1 }
-    ensures puts { Puts (IsLine all name.now (told_of file.entry) (seen_of file.entry)) (W.taken writer.old) (W.taken writer.new)
+    ensures puts { Puts (IsLine beyond name.now (told_of file.entry) (seen_of file.entry)) (W.taken writer.old) (W.taken writer.new)
         (W.failures writer.old) (W.failures writer.new) result }
     ensures memory { IsErrOf result ToolError.Memory → 0 < length (seen_of file.entry) }
 {
     let mut text = TextWriter::new(writer);
-    let Ok(outcome) = write_line(alloc, &mut text, name, all, file) else {
+    let Ok(outcome) = write_line(alloc, &mut text, name, beyond, file) else {
         return Err(ToolError::Memory);
     };
     match text.finish() {
@@ -245,8 +247,8 @@ fn print_refused<W: Sink>(
 }
 
 /// Writes one JSON object and a line feed for the image or object whose file comes from the reader: its content; or its first
-/// fault, and of an image what has no fault, as [`crate`] says. `name` is that of the file in the line. With `all` the line of an image
-/// without a fault has the tables that its profile leaves out too, and what was found in them.
+/// fault, and of an image what has no fault, as [`crate`] says. `name` is that of the file in the line. With `beyond` the line of an image
+/// without a fault has what that asks for too.
 ///
 /// A file that begins like a COFF object is tested for the object faults of docs/FAULTS.md, and any other for the image faults.
 /// `Done` means that it has none of these, and `Refused` has the first that it has.
@@ -258,47 +260,51 @@ fn print_refused<W: Sink>(
 pub fn json<A: Allocator + Copy, R: Source, W: Sink>(
     alloc: A,
     name: &[u8],
-    all: bool,
+    beyond: Option<Beyond>,
     reader: &mut R,
     writer: &mut W,
 ) -> Result<Outcome, ToolError>
     requires reads { R.failures reader.old < 2 ^ 64 - 1 }
     requires writes { W.failures writer.old < 2 ^ 64 - 1 }
-    ensures ran { Ran (IsLineOf all name.now) (R.given reader.old) (R.given reader.new)
+    ensures ran { Ran (IsLineOf beyond name.now) (R.given reader.old) (R.given reader.new)
         (W.taken writer.old) (W.taken writer.new) (R.ended reader.new) result }
     ensures read { IsErrOf result ToolError.Read ↔ (R.failures reader.old < R.failures reader.new) }
     ensures write { IsErrOf result ToolError.Write ↔ (W.failures writer.old < W.failures writer.new) }
 {
     let file = read_whole(alloc, reader)?;
-    print_line(alloc, writer, name, all, ViewFile::whole(&file))
+    print_line(alloc, writer, name, beyond, ViewFile::whole(&file))
 }
 
 /// [`json`] for a file of `len` bytes. Of an image no more is read than the bytes before the end that its headers name, and those
 /// before the end of its string table if a name of a section may be in it. The outcome is that of each file of `len` bytes that
 /// begins so, and so is the line of an image without a fault; that of a refused one is what is told of the bytes that were read. Of
-/// a file that its size or its first bytes refuse, as [`pe_reach::view_fault`] says, at most 4,096 bytes are read. An object, and a
-/// file whose first 4,096 bytes do not say where that end is, is read whole.
+/// a file that its size or its first bytes refuse, as [`pe_reach::view_fault`] says, at most 4,096 bytes are read. An object, a file whose
+/// first 4,096 bytes do not say where that end is, and with `beyond` any other file, is read whole.
 ///
 /// The errors and the conditions are those of [`json`].
 pub fn json_sized<A: Allocator + Copy, R: Source, W: Sink>(
     alloc: A,
     name: &[u8],
-    all: bool,
+    beyond: Option<Beyond>,
     reader: &mut R,
     len: u64,
     writer: &mut W,
 ) -> Result<Outcome, ToolError>
     requires reads { R.failures reader.old < 2 ^ 64 - 1 }
     requires writes { W.failures writer.old < 2 ^ 64 - 1 }
-    ensures ran { RanSized all name.now len (R.given reader.old) (R.given reader.new)
+    ensures ran { RanSized beyond name.now len (R.given reader.old) (R.given reader.new)
         (W.taken writer.old) (W.taken writer.new) (R.ended reader.new) result }
     ensures read { IsErrOf result ToolError.Read ↔ (R.failures reader.old < R.failures reader.new) }
     ensures write { IsErrOf result ToolError.Write ↔ (W.failures writer.old < W.failures writer.new) }
 {
     let seen = read_view(alloc, reader, len)?;
     faults_agree();
-    match seen.refused() {
-        Some(fault) => print_refused(writer, name, seen.file(), fault),
-        None => print_line(alloc, writer, name, all, seen.file()),
+    if let Some(fault) = seen.refused() {
+        return print_refused(writer, name, seen.file(), fault);
     }
+    if beyond.is_none() {
+        return print_line(alloc, writer, name, None, seen.file());
+    }
+    let file = read_rest(reader, seen)?;
+    print_line(alloc, writer, name, beyond, ViewFile::whole(&file))
 }

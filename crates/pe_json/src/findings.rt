@@ -1,79 +1,91 @@
-//! The findings of an image's tables.
+//! The findings of an image's tables and of its file.
 
-ghost use Rattle.std.specs.Prelude.{◌≡◌, ◌&&◌, [], ◌∷◌, flat_map, None, true};
-ghost use Rattle.std.specs.List.{list_all};
+ghost use Rattle.std.specs.Prelude.{◌≡◌, ◌++◌, codes, flat_map, IfOk};
+ghost use Rattle.pe_layout.specs.Layout.{headers_of, image_of};
 ghost use Rattle.pe_text.specs.TextWriter.{IsReady, Adds};
-ghost use Rattle.pe_json.specs.FindingRows.{finding_items, findings_in};
-ghost use Rattle.pe_json.specs.Listed.{is_nil, items_text, more};
-ghost use Rattle.pe_json.specs.Refused.{fault_object};
+ghost use Rattle.pe_view.specs.View.{bytes_of};
+ghost use Rattle.pe_json.specs.FindingRows.{found, image_findings, finding_row, findings_in};
+ghost use Rattle.pe_json.specs.Listed.{more};
 
 use crate::fault::write_object;
+use pe_head::Headers;
+use pe_layout::Layout;
+use pe_records::findings;
 use pe_text::{Sink, TextWriter};
-use pe_view::Fault;
+use pe_trust::{certificate_findings, rich_finding};
+use pe_view::{Fault, View};
+use std::alloc::{AllocError, Allocator};
 
-/// Whether a line leaves a finding out: that debug data passes the end of the file, of which only the beginning may have been read.
-fn is_left_out(finding: &Fault) -> bool
-    ensures { result ≡ is_nil (finding_items finding.now) }
+/// Adds a finding to others, if there is one.
+fn add<A: Allocator>(findings: &mut Vec<Fault, A>, finding: Option<Fault>) -> Result<(), AllocError>
+    ensures { IfOk result (λ _. findings.new.items ≡ findings.old.items ++ found finding) }
 {
-    finding.number == 103
-}
-
-/// Adds a finding, after a comma unless it is the first of the list.
-fn write_item<W: Sink>(text: &mut TextWriter<W>, first: bool, finding: &Fault)
-    requires { IsReady W.failures text.old }
-    ensures { Adds W.taken W.failures text.old text.new (items_text first (fault_object finding.now None ∷ [])) }
-{
-    if first {
-        write_object(text, finding, None);
-    } else {
-        text.text(b",");
-        write_object(text, finding, None);
+    if let Some(finding) = finding {
+        findings.push(finding)?;
     }
+    Ok(())
 }
 
-/// Adds a finding, unless it is left out, and returns whether the next is still the first.
-fn write_finding<W: Sink>(text: &mut TextWriter<W>, first: bool, finding: &Fault) -> bool
-    requires { IsReady W.failures text.old }
-    ensures adds { Adds W.taken W.failures text.old text.new (items_text first (finding_items finding.now)) }
-    ensures first { result ≡ (first && is_nil (finding_items finding.now)) }
+/// Adds those findings to others that there are.
+fn add_each<A: Allocator>(
+    findings: &mut Vec<Fault, A>,
+    more: &[Option<Fault>],
+) -> Result<(), AllocError>
+    ensures { IfOk result (λ _. findings.new.items ≡ findings.old.items ++ flat_map found more.now) }
 {
-    if is_left_out(finding) {
-        return first;
+    for finding in more {
+        add(findings, *finding)?;
     }
-    write_item(text, first, finding);
-    false
+    Ok(())
 }
 
-/// Whether all findings are left out.
-fn are_left_out(findings: &[Fault]) -> bool
-    ensures { result ≡ list_all (λ finding. is_nil (finding_items finding)) findings.now }
+/// All findings of an image, of which this is the whole file.
+pub(crate) fn findings_of<A: Allocator + Copy>(
+    alloc: A,
+    layout: &Layout,
+    file: View,
+) -> Result<Vec<Fault, A>, AllocError>
+    ensures { IfOk result (λ findings. findings.items ≡ image_findings (bytes_of file.entry) (headers_of layout.now) (image_of layout.now)) }
 {
-    findings.iter().all(|finding| is_left_out(finding))
+    let headers = layout.headers();
+    let mut all = findings(alloc, layout, file)?;
+    add_each(&mut all, certificate_findings(0, file, headers).as_slice())?;
+    add(&mut all, rich_finding(0, file, headers))?;
+    Ok(all)
 }
 
-/// Adds the findings that are not left out.
-fn write_each<W: Sink>(text: &mut TextWriter<W>, findings: &[Fault])
+/// Adds a finding after a comma.
+fn write_next<W: Sink>(text: &mut TextWriter<W>, finding: &Fault)
     requires { IsReady W.failures text.old }
-    ensures { Adds W.taken W.failures text.old text.new (items_text true (flat_map finding_items findings.now)) }
+    ensures { Adds W.taken W.failures text.old text.new (codes "," ++ finding_row finding.now) }
 {
-    let mut first = true;
+    text.text(b",");
+    write_object(text, finding, None);
+}
+
+/// Adds findings, each after a comma.
+fn write_rest<W: Sink>(text: &mut TextWriter<W>, findings: &[Fault])
+    requires { IsReady W.failures text.old }
+    ensures { Adds W.taken W.failures text.old text.new (flat_map (λ f. codes "," ++ finding_row f) findings.now) }
+{
     for finding in findings {
         if text.has_failed() {
             return;
         }
-        first = write_finding(text, first, finding);
+        write_next(text, finding);
     }
 }
 
-/// Adds the member that lists the findings, if there are any that are not left out.
+/// Adds the member that lists findings, if there are any.
 pub(crate) fn write_findings<W: Sink>(text: &mut TextWriter<W>, findings: &[Fault])
     requires { IsReady W.failures text.old }
-    ensures { Adds W.taken W.failures text.old text.new (more (findings_in (flat_map finding_items findings.now))) }
+    ensures { Adds W.taken W.failures text.old text.new (more (findings_in findings.now)) }
 {
-    if are_left_out(findings) {
+    let Some((first, rest)) = findings.split_first() else {
         return;
-    }
+    };
     text.text(b",\"findings\":[");
-    write_each(text, findings);
+    write_object(text, first, None);
+    write_rest(text, rest);
     text.text(b"]");
 }

@@ -1,26 +1,29 @@
 //! The line of an image without a fault, and the members that it has in common with a refused one.
 
-ghost use Rattle.std.specs.Prelude.{◌≡◌, ◌++◌, [], codes, map, option_map};
+ghost use Rattle.std.specs.Prelude.{◌≡◌, ◌^◌, ◌≤◌, ◌++◌, [], codes, map, option_map};
 ghost use Rattle.json.specs.Print.{quoted};
 ghost use Rattle.coff_read.specs.ImageNames.{table_of};
 ghost use Rattle.pe_tables.specs.ExportsView.{exports_view, by_ordinal_view};
+ghost use Rattle.pe_tables.specs.Imports.{imports_of};
 ghost use Rattle.pe_tables.specs.ImportView.{import_view};
 ghost use Rattle.pe_text.specs.TextWriter.{IsReady, Adds};
 ghost use Rattle.pe_json.specs.ExportRows.{AreNamesOf};
 ghost use Rattle.pe_json.specs.FindingRows.{image_findings};
 ghost use Rattle.pe_json.specs.Headers.{headers_object};
 ghost use Rattle.pe_json.specs.ImageLine.{format_name, head_members, exports_members, imports_members, fixups_members, profile_members, image_line};
-ghost use Rattle.pe_json.specs.ImageRecords.{record_members};
+ghost use Rattle.pe_json.specs.ImageRecords.{beyond_members};
 ghost use Rattle.pe_layout.specs.Layout.{headers_of, image_of};
+ghost use Rattle.pe_view.specs.View.{bytes_of, size_of};
 ghost use Rattle.pe_json.specs.JsonText.{member};
 ghost use Rattle.pe_json.specs.Listed.{more};
 
 use crate::beginning::begin;
+use crate::beyond::Beyond;
 use crate::directories::write_directories;
 use crate::exports::write_exports;
 use crate::headers::write_coff;
 use crate::optional_header::write_optional;
-use crate::records::write_records;
+use crate::records::write_beyond;
 use crate::sections::write_sections;
 use crate::string::write_number;
 use crate::tables::{write_fixups, write_imports};
@@ -29,7 +32,7 @@ use pe_head::{Headers, Magic};
 use pe_layout::Layout;
 use pe_tables::{Exports, Fixup, Import, NamesByOrdinal};
 use pe_text::{Sink, TextWriter};
-use pe_view::Fault;
+use pe_view::{Fault, View};
 use std::alloc::Allocator;
 
 /// What the line of an image without a fault shows.
@@ -158,24 +161,29 @@ pub(crate) fn write_plain_image<A: Allocator + Copy, W: Sink>(
     text.text(b"\n");
 }
 
-/// Adds the line of an image without a fault, whose file has this name, given the findings that the laid-out image decides.
+/// Adds the line of an image without a fault, whose file has this name, with what is told beyond its profile, given its whole file and
+/// its findings.
 pub(crate) fn write_image<A: Allocator + Copy, W: Sink>(
     text: &mut TextWriter<W>,
     name: &[u8],
     image: Content<A>,
+    beyond: Beyond,
+    file: View,
     layout: &Layout,
     findings: &[Fault],
 )
     requires ready { IsReady W.failures text.old }
     requires own { AreNamesOf (exports_view image.exports.now) (by_ordinal_view image.names.now) }
-    requires found { findings.now ≡ image_findings (headers_of layout.now).machine (image_of layout.now) }
+    requires small { size_of file ≤ 2 ^ 32 }
+    requires imported { map import_view image.imports.now ≡ imports_of (image_of layout.now) }
+    requires found { findings.now ≡ image_findings (bytes_of file) (headers_of layout.now) (image_of layout.now) }
     ensures { Adds W.taken W.failures text.old text.new
         (image_line name.now (option_map table_of image.entry.strings) image.entry.headers.now (exports_view image.entry.exports.now)
-        (map import_view image.entry.imports.now) image.entry.fixups.now (record_members (headers_of layout.now).machine (image_of layout.now))) }
+        (map import_view image.entry.imports.now) image.entry.fixups.now (beyond_members beyond (bytes_of file.entry) (headers_of layout.now) (image_of layout.now))) }
 {
     begin(text, name, true);
     write_profile(text, image);
-    write_records(text, layout, findings);
+    write_beyond(text, beyond, file, layout, image.imports, findings);
     text.text(b"}");
     text.text(b"\n");
 }

@@ -1,10 +1,11 @@
 //! What the definitions mean, as laws: each function has an empty body, and its contract is the law.
 
-ghost use Rattle.std.specs.Prelude.{◌≡◌, Bool, ◌<◌, ◌^◌, ◌++◌, ℕ, List, [], Some, codes, decimal};
+ghost use Rattle.std.specs.Prelude.{◌≡◌, Option, ◌<◌, ◌^◌, ◌++◌, ℕ, List, [], Some, codes, decimal};
 ghost use Rattle.json.specs.Json.{Json, Members, object, document};
 ghost use Rattle.json.specs.Print.{IsNumber};
 ghost use Rattle.json.specs.Tree.{HasNumbers};
 ghost use Rattle.pe_detail.specs.FaultDetail.{fault_detail};
+ghost use Rattle.pe_json.specs.declared.beyond.Beyond.{Beyond};
 ghost use Rattle.pe_json.specs.FileLine.{file_line, image_members};
 ghost use Rattle.pe_json.specs.Refused.{kind_of_refused, refused_by, refused_line};
 ghost use Rattle.pe_json.specs.Value.{IsTextOf};
@@ -18,8 +19,8 @@ ghost use Rattle.pe_view.specs.declared.fault.Place.TheVariants.{Rva};
 /// refused, also by its first bytes, of which nothing else is told: it is UTF-8, no other byte of it is a control character, and its
 /// numbers are decimal digits.
 pub fn lines_are_json()
-    ensures file { (all : Bool) (name : List ℕ) (size : ℕ) (file : List ℕ) (outcome : Outcome) → (members : Members) × (text : List ℕ)
-        × (file_line all name size file outcome ≡ text ++ codes "\n") × IsTextOf (object members) text }
+    ensures file { (beyond : Option Beyond) (name : List ℕ) (size : ℕ) (file : List ℕ) (outcome : Outcome) → (members : Members) × (text : List ℕ)
+        × (file_line beyond name size file outcome ≡ text ++ codes "\n") × IsTextOf (object members) text }
     ensures unread { (name begin : List ℕ) (size : ℕ) (fault : Fault) → (members : Members) × (text : List ℕ)
         × (refused_line name begin size fault [] ≡ text ++ codes "\n") × IsTextOf (object members) text }
 {}
@@ -34,8 +35,8 @@ pub fn json_is_read_back()
 /// If views see the same headers, sections and layout of two images, and one fault refuses both, their lines differ at most in the
 /// numbers that the fault's rule compares; and not in these if the fault is at an RVA, as 16 to 38 are.
 pub fn refused_lines_agree()
-    ensures lines { (all : Bool) (name f g : List ℕ) (size : ℕ) (fault : Fault) → LookAlike f g
-        → file_line all name size f (Refused fault) ≡ refused_by name (kind_of_refused fault g) fault (fault_detail f size fault) (image_members g) }
+    ensures lines { (beyond : Option Beyond) (name f g : List ℕ) (size : ℕ) (fault : Fault) → LookAlike f g
+        → file_line beyond name size f (Refused fault) ≡ refused_by name (kind_of_refused fault g) fault (fault_detail f size fault) (image_members g) }
     ensures values { (f g : List ℕ) (size : ℕ) (fault : Fault) (rva : ℕ) → LookAlike f g → fault.place ≡ Rva rva
         → fault_detail f size fault ≡ fault_detail g size fault }
 {}

@@ -5,11 +5,12 @@
 //! ```text
 //! let mut reader = Counted::new(file);
 //! let mut writer = Counted::new(standard_output);
-//! let answer = json(alloc, b"zlib1.dll", &mut reader, &mut writer);
+//! let answer = json(alloc, b"zlib1.dll", None, &mut reader, &mut writer);
 //! ```
 //!
-//! [`json_sized`] takes the file's size too, and reads only as much of an image as the line shows. [`json_parts`] reads only the
-//! parts from which the line of an image without a fault may be known.
+//! [`Beyond`] in place of `None` asks for what is told of an image beyond its profile. [`json_sized`] takes the file's size too, and reads
+//! only as much of an image as the line shows. [`json_parts`] reads only the parts from which the line of an image without a fault may
+//! be known.
 //!
 //! The line's members are those of docs/JSON.md, and the contracts define each byte. It is written straight into the text; after a
 //! failed write no further row is made. All memory is taken before its first byte, so after want of memory nothing of it was
@@ -19,7 +20,9 @@
 
 mod auxiliary;
 mod beginning;
+mod beyond;
 mod bound_imports;
+mod certificates;
 mod debug;
 mod directories;
 mod engine;
@@ -38,6 +41,8 @@ mod parts;
 mod pdb;
 mod records;
 mod refused;
+mod rich;
+mod rows;
 mod sections;
 mod string;
 mod structure;
@@ -45,6 +50,8 @@ mod structure_keys;
 mod symbols;
 mod tables;
 mod tls;
+mod trust;
 
+pub use beyond::Beyond;
 pub use engine::{json, json_sized};
 pub use parts::json_parts;

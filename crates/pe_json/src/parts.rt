@@ -1,10 +1,10 @@
 //! `json_parts`: `json` for an image's file of a known size, of which only the headers, the sections with tables and the string table
 //! are read.
 
-ghost use Rattle.std.specs.Prelude.{false, map, option_map, ◌-◌, ◌^◌, ◌<◌, ◌↔◌, IsErrOf};
+ghost use Rattle.std.specs.Prelude.{None, map, option_map, ◌-◌, ◌^◌, ◌<◌, ◌↔◌, IfOk, IfNone, IsErrOf};
 ghost use Rattle.coff_read.specs.ImageNames.{table_of};
 ghost use Rattle.pe_json.specs.ExportRows.{AreNamesOf};
-ghost use Rattle.pe_json.specs.JsonByParts.{IsImageLine, PutsParts};
+ghost use Rattle.pe_json.specs.JsonByParts.{IsImageLine, IsLeft, PutsParts};
 ghost use Rattle.pe_json.specs.JsonReport.{IsLineOf};
 ghost use Rattle.pe_reach.specs.PartsRan.{RanByParts};
 ghost use Rattle.pe_tables.specs.ExportsView.{exports_view, by_ordinal_view};
@@ -83,8 +83,9 @@ fn print_parts<A: Allocator + Copy, W: Sink>(
 
 /// [`json`](crate::json) for an image's file of `len` bytes, of which the headers are read, the sections in which its tables begin, and
 /// the string table if a name of a section may be in it. The line and the outcome, which is `Done`, are those of each file of `len`
-/// bytes that has these parts, without the tables that the profile leaves out. `Ok(None)` means that they do not decide it, or that the
-/// image may have a fault: nothing was written, and [`json_sized`](crate::json_sized) is for this file.
+/// bytes that has these parts, without the tables that the profile leaves out. `Ok(None)` means that the parts were not read, as by
+/// [`read_parts`], that the string table could not be put behind them, as by [`read_names`], or that they do not decide the tables:
+/// nothing was written, and [`json_sized`](crate::json_sized) is for this file.
 ///
 /// On the errors `Read` and `Memory` nothing was written, on `Write` the beginning of the line. Condition: each device has counted fewer than
 /// 2^64 - 1 failures so far.
@@ -97,7 +98,8 @@ pub fn json_parts<A: Allocator + Copy, R: PartSource, W: Sink>(
 ) -> Result<Option<Outcome>, ToolError>
     requires reads { R.failures reader.old < 2 ^ 64 - 1 }
     requires writes { W.failures writer.old < 2 ^ 64 - 1 }
-    ensures ran { RanByParts (IsLineOf false name.now) len (R.parts reader.old) (R.parts reader.new) (W.taken writer.old) (W.taken writer.new) result }
+    ensures ran { RanByParts (IsLineOf None name.now) len (R.parts reader.old) (R.parts reader.new) (W.taken writer.old) (W.taken writer.new) result }
+    ensures left { IfOk result (λ outcome. IfNone outcome (IsLeft len (R.parts reader.old) (R.parts reader.new))) }
     ensures read { IsErrOf result ToolError.Read ↔ (R.failures reader.old < R.failures reader.new) }
     ensures write { IsErrOf result ToolError.Write ↔ (W.failures writer.old < W.failures writer.new) }
 {

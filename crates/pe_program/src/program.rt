@@ -5,9 +5,9 @@ use crate::command_line::{refuse_command_line, refuse_words, words_of};
 use crate::explain::run_explain;
 use crate::file_job::{run_file, run_files};
 use crate::map_job::{run_map, run_map_unbound};
-use crate::rebase_job::run_rebase;
+use crate::rebase_job::{NewFile, run_rebase};
 use crate::texts::Engine;
-use pe_tool::{Colours, Job, Page, ShowOptions, parse_words};
+use pe_tool::{Beyond, Colours, Job, JsonOptions, Page, ShowOptions, parse_words};
 use std::env::FillError;
 use std::io::Input;
 use std::rt::{Env, Files};
@@ -74,6 +74,15 @@ fn show_engine(rt: &impl Env, options: ShowOptions, colours: Colours, is_termina
     }
 }
 
+/// The engine of `json`.
+fn json_engine(options: Option<JsonOptions>) -> Engine<'static> {
+    let beyond = match options {
+        Some(JsonOptions { functions, digests }) => Some(Beyond { functions, digests }),
+        None => None,
+    };
+    Engine::Json { beyond }
+}
+
 /// Carries out the command line, and returns the exit status. Pages may have colours if standard output is a terminal.
 pub fn run<R: Files + Input + Env + Print + Eprint + AllocGlobal>(rt: &R, is_terminal: bool) -> u8 {
     let words = match words_of(rt) {
@@ -96,7 +105,13 @@ pub fn run<R: Files + Input + Env + Print + Eprint + AllocGlobal>(rt: &R, is_ter
             most,
             &files,
         ),
-        Ok(Job::Json { all, most, files }) => run_files(rt, Engine::Json { all }, most, &files),
+        Ok(
+            Job::Json {
+                beyond,
+                most,
+                files,
+            },
+        ) => run_files(rt, json_engine(beyond), most, &files),
         Ok(Job::Sum { files }) => run_files(rt, Engine::Sum, None, &files),
         Ok(Job::At { file, places }) => run_at(rt, file.as_str(), &places),
         Ok(Job::Explain { number }) => run_explain(rt, number),
@@ -125,10 +140,16 @@ pub fn run<R: Files + Input + Env + Print + Eprint + AllocGlobal>(rt: &R, is_ter
         Ok(
             Job::Rebase {
                 base,
+                check_sum,
                 source,
                 target,
             },
-        ) => run_rebase(rt, base, source.as_str(), target.as_str()),
+        ) => run_rebase(
+            rt,
+            NewFile { base, check_sum },
+            source.as_str(),
+            target.as_str(),
+        ),
         Err(error) => refuse_words(rt, &words, error),
     }
 }

@@ -9,7 +9,10 @@ use crate::statuses::{DEVICE_FAILED, DONE, OUT_OF_MEMORY};
 use crate::target::Target;
 use crate::texts::Printed;
 use crate::word_bytes::{bytes_of, is_marked};
-use pe_tool::{Counted, Outcome, ShownName, Sink, Source, ToolError, rebase, rebase_sized};
+use pe_tool::{
+    Counted, Outcome, ShownName, Sink, Source, ToolError, rebase, rebase_sized, rebase_summed,
+    rebase_summed_sized,
+};
 use pe_view::View;
 use std::alloc::{AllocError, Allocator};
 use std::borrow::CowSlice;
@@ -21,10 +24,19 @@ use std::{fs, str};
 /// The size of the room for the line, in bytes.
 const LINE_ROOM: usize = 1 << 8;
 
+/// What the new file is to have.
+#[derive(Clone, Copy)]
+pub(crate) struct NewFile {
+    /// Its ImageBase.
+    pub base: u64,
+    /// Whether it has its CheckSum, in place of 0.
+    pub check_sum: bool,
+}
+
 /// Runs the engine over a source, whose size may be known.
 fn rebase_from<A: Allocator + Copy, R: Source, O: Sink, W: Sink>(
     alloc: A,
-    base: u64,
+    new: NewFile,
     reader: &mut R,
     size: Option<u64>,
     out: &mut O,
@@ -34,9 +46,11 @@ fn rebase_from<A: Allocator + Copy, R: Source, O: Sink, W: Sink>(
     requires outs { O.failures out.old < 2 ^ 64 - 1 }
     requires writes { W.failures line.old < 2 ^ 64 - 1 }
 {
-    match size {
-        Some(size) => rebase_sized(alloc, reader, size, base, out, line),
-        None => rebase(alloc, reader, base, out, line),
+    match (size, new.check_sum) {
+        (Some(size), true) => rebase_summed_sized(alloc, reader, size, new.base, out, line),
+        (Some(size), false) => rebase_sized(alloc, reader, size, new.base, out, line),
+        (None, true) => rebase_summed(alloc, reader, new.base, out, line),
+        (None, false) => rebase(alloc, reader, new.base, out, line),
     }
 }
 
@@ -44,7 +58,7 @@ fn rebase_from<A: Allocator + Copy, R: Source, O: Sink, W: Sink>(
 /// how long the line is. `size` is that of the source, if it is known.
 fn rebase_into<A: Allocator + Copy>(
     alloc: A,
-    base: u64,
+    new: NewFile,
     source: impl Read + Drop,
     size: Option<u64>,
     target: impl Write + Drop,
@@ -54,7 +68,7 @@ fn rebase_into<A: Allocator + Copy>(
     let mut rest = room;
     let answer = rebase_from(
         alloc,
-        base,
+        new,
         &mut Counted::new(source),
         size,
         &mut Counted::new(target),
@@ -84,11 +98,11 @@ fn certificate_size(first: View) -> Option<u32> {
     first.u32_at(count.saturating_add(4 + 4 * 8 + 4))
 }
 
-/// Reports what the new file lost from the old one, which has these first bytes: its CheckSum, and the validity of its
-/// certificate.
-fn tell_changes(rt: &impl Eprint, target: &[u8], first: View) {
+/// Reports what the new file lost from the old one, which has these first bytes: its CheckSum, unless that was asked for, and the
+/// validity of its certificate.
+fn tell_changes(rt: &impl Eprint, new: NewFile, target: &[u8], first: View) {
     let target = ShownName(target);
-    if check_sum(first) != Some(0) {
+    if !new.check_sum && check_sum(first) != Some(0) {
         let _ = eprintln!(rt; "petool: {target}: CheckSum is now 0");
     }
     if certificate_size(first).unwrap_or(0) != 0 {
@@ -155,6 +169,7 @@ fn refuse_target(rt: &impl Eprint, name: &[u8], error: Error) -> u8 {
 /// Prints the line of the engine, reports what is to be reported, and returns the exit status.
 fn tell_rebase<R: Print + Eprint + Alloc, F: Read + Seek + Drop, S: Read + Drop>(
     rt: &R,
+    new: NewFile,
     names: (&[u8], &[u8]),
     file: &mut InputFile<F, S>,
     answer: Result<Outcome, ToolError>,
@@ -175,7 +190,7 @@ where
     };
     let status = tell(rt, names.0, file, printed);
     if status == DONE {
-        tell_changes(rt, names.1, View::new(file.first()));
+        tell_changes(rt, new, names.1, View::new(file.first()));
     }
     status
 }
@@ -184,7 +199,7 @@ where
 /// exit status.
 fn rebase_file<R: Files + Print + Eprint + Alloc, S: Read + Drop>(
     rt: &R,
-    base: u64,
+    new: NewFile,
     names: (&[u8], &[u8]),
     mut file: InputFile<R::File, S>,
     target: &str,
@@ -195,7 +210,7 @@ where
     let mut room = [0; LINE_ROOM];
     let mut output = Target::new(rt, target);
     let size = file.size();
-    let (answer, len) = rebase_into(rt.alloc(), base, &mut file, size, &mut output, &mut room);
+    let (answer, len) = rebase_into(rt.alloc(), new, &mut file, size, &mut output, &mut room);
     let error = output.error();
     let finished = output.finish(matches!(answer, Ok(Outcome::Done)));
     match error.or(finished.err()) {
@@ -203,7 +218,7 @@ where
         None => {
             let line = room.get(..len).unwrap_or(&room);
             let error = print_line(rt, target, line);
-            tell_rebase(rt, names, &mut file, answer, error)
+            tell_rebase(rt, new, names, &mut file, answer, error)
         }
     }
 }
@@ -211,7 +226,7 @@ where
 /// Writes the file of an image for another base, and returns the exit status.
 pub(crate) fn run_rebase<R: Files + Input + Print + Eprint + Alloc>(
     rt: &R,
-    base: u64,
+    new: NewFile,
     source: &str,
     target: &str,
 ) -> u8
@@ -231,6 +246,6 @@ where
             let _ = eprintln!(rt; "petool: {to}: {reason}");
             DEVICE_FAILED
         }
-        None => rebase_file(rt, base, (&from, &to), file, target),
+        None => rebase_file(rt, new, (&from, &to), file, target),
     }
 }

@@ -5,10 +5,10 @@ ghost use Rattle.std.specs.Prelude.{◌-◌, ◌^◌, ◌<◌, ◌≤◌, OnOk};
 use crate::headed::{Headed, Heading};
 use crate::output::Output;
 use pe_tool::{
-    Counted, Detail, Outcome, Page, PartSource, Placed, Policy, SetEntry, ShowOptions, Sink,
-    Source, Spot, ToolError, at_each_sized, at_each_text, check_parts, check_sized, check_text,
-    dump_object_sized, dump_parts, dump_sized, dump_text, fault_detail, json, json_parts,
-    json_sized, map_report, map_report_unbound, object_text, read_whole, show_page,
+    Beyond, Counted, Detail, Outcome, Page, PartSource, Placed, Policy, SetEntry, ShowOptions,
+    Sink, Source, Spot, ToolError, at_each_sized, at_each_text, check_parts, check_sized,
+    check_text, dump_object_sized, dump_parts, dump_sized, dump_text, fault_detail, json,
+    json_parts, json_sized, map_report, map_report_unbound, object_text, read_whole, show_page,
     show_page_sized, size_fault, sum_sized, sum_text, write_refusal,
 };
 use pe_view::{Fault, View};
@@ -36,8 +36,8 @@ pub enum Engine<'e> {
     },
     /// `pe_tool::json`
     Json {
-        /// Whether lines have the tables beyond the profile.
-        all: bool,
+        /// What lines have beyond the profile.
+        beyond: Option<Beyond>,
     },
     /// `pe_tool::sum`
     Sum,
@@ -198,7 +198,7 @@ fn write_whole<A: Allocator + Copy, R: Source, W: Sink>(
             };
             (show_page(alloc, &page, reader, writer), None)
         }
-        Engine::Json { all } => (json(alloc, name, all, reader, writer), None),
+        Engine::Json { beyond } => (json(alloc, name, beyond, reader, writer), None),
         Engine::Sum => write_lines(alloc, Lines::Sum, reader, writer),
         Engine::At(spots) => write_lines(alloc, Lines::At(spots), reader, writer),
     }
@@ -236,7 +236,7 @@ fn write_sized<A: Allocator + Copy, R: Source, W: Sink>(
             };
             (show_page_sized(alloc, &page, reader, size, writer), None)
         }
-        Engine::Json { all } => (json_sized(alloc, name, all, reader, size, writer), None),
+        Engine::Json { beyond } => (json_sized(alloc, name, beyond, reader, size, writer), None),
         Engine::Sum if is_too_large(size) => (sum_sized(alloc, reader, size, writer), None),
         Engine::Sum => write_lines(alloc, Lines::Sum, reader, writer),
         Engine::At(spots) => (at_each_sized(alloc, spots, reader, size, writer), None),
@@ -260,7 +260,7 @@ fn write_parts<A: Allocator + Copy, R: PartSource, W: Sink>(
     match engine {
         Engine::Check => check_parts(alloc, reader, size, writer),
         Engine::Dump => dump_parts(alloc, reader, size, writer),
-        Engine::Json { all: false } => json_parts(alloc, name, reader, size, writer),
+        Engine::Json { beyond: None } => json_parts(alloc, name, reader, size, writer),
         _ => Ok(None),
     }
 }

@@ -19,7 +19,7 @@ use Rattle.pe_layout.specs.SectionFaults.{layout_tests, placing_tests, section_t
 use Rattle.pe_parts.specs.Packed.{moved, IsHeld, AreHeld}
 use Rattle.pe_reach.specs.Reach.{HaveBoth, headers_end}
 use Rattle.pe_reach.specs.Parts.{Part, HasPart}
-use Rattle.pe_reach.specs.PartsRead.{EndsEarly, can_begin, has_headers, IsRawInside, place_of, next_place, packed_from}
+use Rattle.pe_reach.specs.PartsRead.{EndsEarly, can_begin, has_headers, IsRawInside, place_of, next_place, packed_from, packed_end}
 use Rattle.pe_reach.proofs.Headers.{headers_agree}
 use Rattle.pe_reach.proofs.Images.{lower, agree_of_both, head_first_agrees}
 
@@ -223,6 +223,19 @@ packed_more h len place next ss items ts all i d pointer same lt is goes old =
 -- all of them
 pub packed_all : (h : Headers) (len place : ℕ) (ss ts all : List SectionHeader) (i : ℕ) → length ss ≤ i → ts ++ packed_from h len place (drop i ss) ≡ all → ts ≡ all
 packed_all h len place ss ts all i past old = sym (append-nil ts) ∙ ap (λ (xs : List SectionHeader). ts ++ packed_from h len place xs) (sym (drop_all i ss past)) ∙ old
+
+-- where the packed bytes end does not change with one more section
+pub end_more : (h : Headers) (len place next : ℕ) (ss items : List SectionHeader) (all i : ℕ) (d : SectionHeader) → items ≡ ss → i < length items
+    → next ≡ next_place h len place (get_or items i d) → packed_end h len place (drop i ss) ≡ all → packed_end h len next (drop (i + 1) ss) ≡ all
+end_more h len place next ss items all i d same lt goes old =
+    let lt' : i < length ss = subst (λ (xs : List SectionHeader). i < length xs) same lt in
+    let goes' : next ≡ next_place h len place (get_or ss i d) = subst (λ (xs : List SectionHeader). next ≡ next_place h len place (get_or xs i d)) same goes in
+    let one : suc i ≡ i + 1 = omega arith in
+    let cons : drop i ss ≡ get_or ss i d ∷ drop (i + 1) ss = subst (λ n. drop i ss ≡ get_or ss i d ∷ drop n ss) one (drop-cons ss i d lt') in
+    ap (λ n. packed_end h len n (drop (i + 1) ss)) goes' ∙ sym (ap (packed_end h len place) cons) ∙ old
+
+pub end_all : (h : Headers) (len place : ℕ) (ss : List SectionHeader) (all i : ℕ) → length ss ≤ i → packed_end h len place (drop i ss) ≡ all → place ≡ all
+end_all h len place ss all i past old = ap (packed_end h len place) (sym (drop_all i ss past)) ∙ old
 
 -- a file begins with so many bytes
 pub begins_as : (file begin : List ℕ) (n : ℕ) → length begin ≡ n → n ≤ length file → ((k : ℕ) → k < n → get_or begin k 0 ≡ get_or file k 0) → take n file ≡ begin

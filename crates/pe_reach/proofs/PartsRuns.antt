@@ -16,7 +16,7 @@ use Rattle.pe_text.specs.declared.outcome.ToolError.TheVariants.{Read, Write, Me
 use Rattle.pe_text.specs.Engine.{Puts}
 use Rattle.pe_reach.specs.declared.parts_reading.Parts.{Parts}
 use Rattle.pe_reach.specs.Parts.{Part, HasParts}
-use Rattle.pe_reach.specs.PartsRead.{AreOf, AreUndecided, packed_headers}
+use Rattle.pe_reach.specs.PartsRead.{AreOf, AreUndecided, packed_headers, packed_size}
 use Rattle.pe_reach.specs.PartsRan.{IsTextOfTables, RanByParts}
 
 -- what is known of each file with some parts: its headers, that it has none of faults 1 to 15, and its tables
@@ -75,13 +75,14 @@ ran_by_parts IsText len parts parts' taken taken' count count' h tables read rea
 -- parts that do not decide the tables
 pub parts_undecided : {A : Type 0} (len : ℕ) (before now read : List Part) (parts : Parts A) (packed : List ℕ) → now ≡ before ++ read → packed ≡ parts.bytes.items
     → ((file : List ℕ) → length file ≡ len → HasParts file read → AreOf parts file) → parts.packed ≡ packed_headers parts.headers len
-    → can_decide_tables 0 parts.packed packed ≡ false → AreUndecided len before now
-parts_undecided len before now read parts packed reads same of places fails = record {
+    → length parts.bytes.items ≡ packed_size parts.headers len → can_decide_tables 0 parts.packed packed ≡ false → AreUndecided len before now
+parts_undecided len before now read parts packed reads same of places size fails = record {
   read = read;
   headers = parts.headers;
   bytes = packed;
   reads = reads;
   heads = λ file size has. (of file size has).headers;
   packed = λ file size has. subst (λ (p : Headers). IsPacked file parts.headers packed p) places (subst (λ (c : List ℕ). IsPacked file parts.headers c parts.packed) (sym same) (of file size has).packed);
+  size = ap length same ∙ size;
   undecided = ap (λ (p : Headers). can_decide_tables 0 p packed) (sym places) ∙ fails;
 }

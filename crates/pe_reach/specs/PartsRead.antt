@@ -69,6 +69,15 @@ abbrev pub packed_from : Headers → ℕ → ℕ → List SectionHeader → List
 packed_from h len place [] = []
 packed_from h len place (s ∷ ss) = moved s (place_of h len place s) ∷ packed_from h len (next_place h len place s) ss
 
+-- where the packed bytes end, if the raw data of these sections goes on at a place
+abbrev pub packed_end : Headers → ℕ → ℕ → List SectionHeader → ℕ
+packed_end h len place [] = place
+packed_end h len place (s ∷ ss) = packed_end h len (next_place h len place s) ss
+
+-- how many bytes the parts of a file of a length have
+abbrev pub packed_size : Headers → ℕ → ℕ
+packed_size h len = packed_end h len h.size_of_headers h.sections.items
+
 -- headers with other sections, and with no string table
 abbrev pub with_sections : Headers → List SectionHeader → Headers
 with_sections h sections = record h { sections = record { items = sections }; pointer_to_symbol_table = 0; number_of_symbols = 0 }
@@ -106,6 +115,7 @@ pub record AreUndecided (len : ℕ) (before now : List Part) : Type 0 where
   pub reads : now ≡ before ++ read
   pub heads : (file : List ℕ) → length file ≡ len → HasParts file read → head_of file ≡ headers
   pub packed : (file : List ℕ) → length file ≡ len → HasParts file read → IsPacked file headers bytes (packed_headers headers len)
+  pub size : length bytes ≡ packed_size headers len
   pub undecided : can_decide_tables 0 (packed_headers headers len) bytes ≡ false
 
 -- the names of the sections, by the string table that the packed headers lead to

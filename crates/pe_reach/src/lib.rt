@@ -32,6 +32,6 @@ pub use reach::{early_fault, needed, object_size_fault, size_fault, view_fault};
 pub use reading::read_enough;
 pub use sized::run_sized;
 pub use view_file::ViewFile;
-pub use view_reading::{ViewBytes, read_view};
+pub use view_reading::{ViewBytes, read_rest, read_view};
 pub use view_report::{ViewReport, WholeView, run_view};
 pub use whole_tables::read_whole_tables;

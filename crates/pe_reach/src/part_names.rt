@@ -1,13 +1,13 @@
 //! `read_names`: the string table of an image of whose file parts were read.
 
-ghost use Rattle.std.specs.Prelude.{◌≡◌, ◌-◌, ◌+◌, ◌*◌, ◌^◌, ◌<◌, ◌≤◌, ℕ, IfSome, IfOk, IfNone, List, ◌++◌, length, map, option_map, take, vec_len, MatchResult};
+ghost use Rattle.std.specs.Prelude.{◌≡◌, ◌-◌, ◌+◌, ◌*◌, ◌^◌, ◌<◌, ◌≤◌, ℕ, IfSome, IfOk, IfNone, List, ◌++◌, length, map, max, option_map, take, vec_len, MatchResult};
 ghost use Rattle.std.specs.Option.{MatchOption};
 ghost use Rattle.pe_view.specs.Number.{num, byte_of};
 ghost use Rattle.pe_head.specs.declared.headers.Headers.{Headers};
 ghost use Rattle.coff_read.specs.ImageNames.{image_strings, table_of};
 ghost use Rattle.pe_reach.specs.Parts.{Part, HasParts};
 ghost use Rattle.pe_reach.specs.PartsRead.{FailsToRead, EndsEarly, AddNames};
-ghost use Rattle.pe_reach.specs.PartNames.{with_strings, AreNotNamed};
+ghost use Rattle.pe_reach.specs.PartNames.{with_strings, AreNotNamed, AreWithNames};
 ghost use Rattle.pe_reach.specs.Views.{names_under};
 
 use crate::names::{has_long_name, strings_start};
@@ -74,6 +74,7 @@ fn read_strings<A: Allocator, R: PartSource>(
         × ((file : List ℕ) → length file ≡ len → HasParts file read
         → names_under bytes.new.items (with_strings headers.now pointer) ≡ names_under file headers.now)))
         (FailsToRead (R.failures reader.old) (R.failures reader.new)) }
+    ensures room { IfOk result (λ pointer. IfSome pointer (λ _. length bytes.new.items ≤ max (length bytes.old.items) len)) }
 {
     if headers.pointer_to_symbol_table == 0 || !has_long_name(headers.sections.as_slice()) {
         return Ok(Some(0));
@@ -116,7 +117,7 @@ pub fn read_names<A: Allocator, R: PartSource>(
     ensures { (read : List Part) × (R.parts reader.new ≡ R.parts reader.old ++ read) × MatchResult result
         (λ named. (R.failures reader.new ≡ R.failures reader.old) × MatchOption named
         (AreNotNamed len parts.headers (length parts.bytes.items) (R.parts reader.old) (R.parts reader.new)) (λ named. (named.headers ≡ parts.headers)
-        × ((file : List ℕ) → length file ≡ len → HasParts file read → AddNames parts named file)))
+        × AreWithNames len parts named × ((file : List ℕ) → length file ≡ len → HasParts file read → AddNames parts named file)))
         (FailsToRead (R.failures reader.old) (R.failures reader.new)) }
 {
     let Parts {

@@ -9,7 +9,7 @@ ghost use Rattle.pe_layout.specs.Piece.{holds};
 ghost use Rattle.pe_layout.specs.SectionFaults.{layout_tests};
 ghost use Rattle.pe_parts.specs.Packed.{IsHeld, AreHeld};
 ghost use Rattle.pe_reach.specs.Parts.{Part, HasPart, HasParts};
-ghost use Rattle.pe_reach.specs.PartsRead.{FailsToRead, can_begin, has_headers, begins_in, is_wanted, is_packed, place_of, next_place, packed_from, packed_headers};
+ghost use Rattle.pe_reach.specs.PartsRead.{FailsToRead, can_begin, has_headers, begins_in, is_wanted, is_packed, place_of, next_place, packed_from, packed_end, packed_size, packed_headers};
 ghost use Rattle.pe_reach.specs.PartsRead.{AreOf, EndsEarly, IsRawInside, AreNotRead};
 
 use crate::part_source::PartSource;
@@ -195,6 +195,7 @@ fn read_sections<A: Allocator, R: PartSource>(
     ensures early { IfOk result (λ sections. IfNone sections (All (IsRawInside len) headers.now.sections.items → EndsEarly len (R.parts reader.old) (R.parts reader.new))) }
     ensures places { IfOk result (λ sections. IfSome sections (λ sections.
         sections.items ≡ packed_from headers.now len (vec_len bytes.old) headers.now.sections.items)) }
+    ensures end { IfOk result (λ sections. IfSome sections (λ _. vec_len bytes.new ≡ packed_end headers.now len (vec_len bytes.old) headers.now.sections.items)) }
     ensures reads { (read : List Part) × (R.parts reader.new ≡ R.parts reader.old ++ read) × MatchResult result
         (λ sections. (R.failures reader.new ≡ R.failures reader.old) × IfSome sections (λ sections.
         (take (vec_len bytes.old) bytes.new.items ≡ bytes.old.items)
@@ -232,6 +233,7 @@ pub fn read_parts<A: Allocator + Copy, R: PartSource>(
         (FailsToRead (R.failures reader.old) (R.failures reader.new)) }
     ensures left { IfOk result (λ parts. IfNone parts (AreNotRead len (R.parts reader.old) (R.parts reader.new))) }
     ensures places { IfOk result (λ parts. IfSome parts (λ parts. parts.packed ≡ packed_headers parts.headers len)) }
+    ensures size { IfOk result (λ parts. IfSome parts (λ parts. length parts.bytes.items ≡ packed_size parts.headers len)) }
     ensures large { IfOk result (λ parts. IfSome parts (λ parts. 2 ^ 16 ≤ len)) }
     ensures memory { IsErrOf result ToolError.Memory → 2 ^ 16 ≤ len }
 {

@@ -1,7 +1,7 @@
 //! `read_view`: as much of a file of a known size as views show of it.
 
 ghost use Rattle.std.specs.Prelude.{◌≡◌, ◌-◌, ◌+◌, ◌^◌, ◌<◌, ◌≤◌, ℕ, List, ◌++◌, length, IfSome, MatchResult, None, true};
-ghost use Rattle.pe_text.specs.Engine.{FailsAfter};
+ghost use Rattle.pe_text.specs.Engine.{FailsAfter, IsWhole};
 ghost use Rattle.pe_reach.specs.Views.{IsSeen, IsViewed, RefuseView};
 ghost use Rattle.pe_reach.specs.Settled.{IsSettled, IsRead, IsNamed};
 ghost use Rattle.pe_reach.specs.ViewBytes.{bytes_read, size_told, refused_by};
@@ -214,4 +214,24 @@ pub fn read_view<A: Allocator + Copy, R: Source>(
         });
     }
     read_seen(reader, first, len, false)
+}
+
+/// Reads on in a file of which a view's first bytes were read, to its end, or to 2^32 + 1 bytes in all. Returns all its bytes.
+///
+/// The errors are those of [`read_enough`](crate::read_enough). Conditions: no more than 2^32 + 1 bytes were read, and the source has
+/// counted fewer than 2^64 - 1 failures so far.
+pub fn read_rest<A: Allocator + Copy, R: Source>(
+    reader: &mut R,
+    seen: ViewBytes<A>,
+) -> Result<Vec<u8, A>, ToolError>
+    requires counts { R.failures reader.old < 2 ^ 64 - 1 }
+    requires few { length (bytes_read seen) ≤ 2 ^ 32 + 1 }
+    ensures { (more : List ℕ) × (R.given reader.new ≡ R.given reader.old ++ more)
+        × MatchResult result
+        (λ bytes. (bytes.items ≡ bytes_read seen ++ more) × IsWhole (R.ended reader.new) bytes.items × (R.failures reader.new ≡ R.failures reader.old))
+        (FailsAfter (bytes_read seen ++ more) (R.failures reader.old) (R.failures reader.new))
+        × (length (bytes_read seen ++ more) ≤ 2 ^ 32 + 1) }
+{
+    let read = read_up_to(reader, seen.bytes, READ_LIMIT)?;
+    Ok(read.bytes)
 }

@@ -1,18 +1,20 @@
 //! The rows of a page for the certificates of an image's file.
 
+ghost use Rattle.pe_view.specs.View.{bytes_of};
+ghost use Rattle.pe_trust.specs.DigestsView.{AreDigestsOf};
+ghost use Rattle.pe_trust.specs.SignedBytes.{authenticode_bytes};
 ghost use Rattle.pe_text.specs.TextWriter.{IsReady};
 ghost use Rattle.pe_page.specs.Page.{AddsSome};
 
 use crate::debug_data::write_bytes;
-use crate::file_digests::FileDigests;
 use pe_head::Headers;
 use pe_page::Cell::{self, Plain};
 use pe_page::{plural, write_cells};
 use pe_text::Part::{Hex, Hex4, Text};
 use pe_text::{Sink, TextWriter, write_parts};
 use pe_trust::{
-    Certificate, Certificates, DigestAlgorithm, SignedDigest, Signer, Signers, common_name,
-    signed_digest,
+    Certificate, Certificates, DigestAlgorithm, FileDigests, SignedDigest, Signer, Signers,
+    common_name, signed_digest,
 };
 use pe_view::View;
 
@@ -120,8 +122,10 @@ fn write_signed<W: Sink>(
     headers: &Headers,
     digests: &mut FileDigests,
 )
-    requires { IsReady W.failures text.old }
-    ensures { AddsSome W.taken W.failures text.old text.new }
+    requires ready { IsReady W.failures text.old }
+    requires known { AreDigestsOf (authenticode_bytes (bytes_of file) headers.now) digests.old }
+    ensures adds { AddsSome W.taken W.failures text.old text.new }
+    ensures kept { AreDigestsOf (authenticode_bytes (bytes_of file.entry) headers.now) digests.new }
 {
     match signed_digest(bytes) {
         Some(signed) => {
@@ -162,8 +166,10 @@ fn write_certificate<W: Sink>(
     headers: &Headers,
     digests: &mut FileDigests,
 )
-    requires { IsReady W.failures text.old }
-    ensures { AddsSome W.taken W.failures text.old text.new }
+    requires ready { IsReady W.failures text.old }
+    requires known { AreDigestsOf (authenticode_bytes (bytes_of file) headers.now) digests.old }
+    ensures adds { AddsSome W.taken W.failures text.old text.new }
+    ensures kept { AreDigestsOf (authenticode_bytes (bytes_of file.entry) headers.now) digests.new }
 {
     write_entry(text, certificate);
     if certificate.kind != SIGNED_DATA {
@@ -178,7 +184,7 @@ pub(crate) fn write_certificates<W: Sink>(text: &mut TextWriter<W>, file: View, 
     requires { IsReady W.failures text.old }
     ensures { AddsSome W.taken W.failures text.old text.new }
 {
-    let mut digests = FileDigests::default();
+    let mut digests = FileDigests::none();
     for certificate in Certificates::of(file, headers) {
         write_certificate(text, &certificate, file, headers, &mut digests);
     }

@@ -7,10 +7,10 @@
 mod certificates;
 mod debug;
 mod debug_data;
-mod file_digests;
 mod findings;
 mod functions;
 mod load_configuration;
+mod overlay;
 mod pdb;
 mod rich_header;
 mod shown_image;

@@ -1,13 +1,17 @@
-//! The part of a page on what an image's file says of itself: its CheckSum, its certificates and its Rich header.
+//! The part of a page on what an image's file says of itself: its CheckSum, its certificates, its overlay, its Rich header and its import hash.
 
 ghost use Rattle.pe_text.specs.TextWriter.{IsReady};
 ghost use Rattle.pe_page.specs.Page.{AddsSome};
 
 use crate::certificates::write_certificates;
+use crate::debug_data::write_bytes;
+use crate::overlay::write_overlay;
 use crate::rich_header::write_rich_header;
 use pe_head::Headers;
+use pe_imphash::import_hash;
 use pe_page::write_plain_heading;
 use pe_reach::ViewFile;
+use pe_tables::Import;
 use pe_text::Part::{Hex8, Text};
 use pe_text::{ShowOptions, Sink, TextWriter, write_parts};
 use pe_trust::{certificate_findings, check_sum, rich_finding};
@@ -86,12 +90,28 @@ pub fn trust_findings(options: &ShowOptions, file: ViewFile, headers: &Headers) 
     ]
 }
 
-/// Adds what an image's file says of itself, if the options select it.
+/// Adds the row of the hash of an image's imports, if they are known and there is one.
+fn write_import_hash<W: Sink>(text: &mut TextWriter<W>, imports: Option<&[Import]>)
+    requires { IsReady W.failures text.old }
+    ensures { AddsSome W.taken W.failures text.old text.new }
+{
+    let Some(imports) = imports else {
+        return;
+    };
+    if let Some(hash) = import_hash(imports) {
+        text.text(b"  Import hash  ");
+        write_bytes(text, &hash);
+        text.text(b"\n");
+    }
+}
+
+/// Adds what an image's file says of itself, if the options select it. `imports` are the image's, if they were read.
 pub fn write_trust<W: Sink>(
     text: &mut TextWriter<W>,
     options: &ShowOptions,
     file: ViewFile,
     headers: &Headers,
+    imports: Option<&[Import]>,
 )
     requires { IsReady W.failures text.old }
     ensures { AddsSome W.taken W.failures text.old text.new }
@@ -106,5 +126,7 @@ pub fn write_trust<W: Sink>(
     write_plain_heading(text, options, b"Trust");
     write_check_sum(text, headers.check_sum, check_sum(bytes, headers));
     write_certificates(text, bytes, headers);
+    write_overlay(text, bytes, headers);
     write_rich_header(text, bytes, headers);
+    write_import_hash(text, imports);
 }

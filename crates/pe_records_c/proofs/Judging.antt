@@ -1,10 +1,6 @@
 -- What a call on a set returns.
-use Rattle.std.proofs.Common.{◌≡◌, ◌≢◌, ℕ, List, None, Option, Result, Ok, Err, refl}
-use Rattle.pe_set.specs.Bindings.{bindings_of}
-use Rattle.pe_set.specs.Set.{Entry, modules_of}
-use Rattle.pe_set.specs.SetErrors.{ErrorIs, SetAnswers}
-use Rattle.pe_set.specs.SetView.{IsAcceptedFrom}
-use Rattle.pe_set.specs.declared.judging.Accepted.{Accepted}
+use Rattle.std.proofs.Common.{◌≡◌, ◌≢◌, ℕ, None, Option, refl}
+use Rattle.pe_set.specs.SetErrors.{ErrorIs}
 use Rattle.pe_set.specs.declared.error.MapError.{MapError}
 use Rattle.pe_set.specs.declared.error.MapError.TheVariants as errors
 use Rattle.pe_records_c.specs.Faults.{IsAccepted}
@@ -47,9 +43,3 @@ none_judged first before cycle status none other = record {
   fault_kept = λ _. refl;
   cycle_kept = λ _. refl;
 }
-
--- an accepted set has its bindings
-pub bindings_answered : {A : Type 0} (first : Option MapError) (es : List Entry) (result : Result (Accepted A) MapError) → SetAnswers first (IsAcceptedFrom es) result
-    → SetAnswers first (λ accepted. accepted.bindings.items ≡ bindings_of (modules_of es)) result
-bindings_answered first es (Ok accepted) answers = (answers.0, answers.1.bindings)
-bindings_answered first es (Err error) answers = answers

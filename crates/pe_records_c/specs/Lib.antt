@@ -15,6 +15,7 @@ pub mod SetRows
 pub mod Spaces
 pub mod SymbolRows
 pub mod TableTests
+pub mod UnboundRows
 pub mod ValueNames
 pub mod ValueRows
 pub mod Wants

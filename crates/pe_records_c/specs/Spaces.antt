@@ -1,13 +1,21 @@
 -- What the calls of a space return.
-use Rattle.std.specs.Prelude.{◌≡◌, ℕ, List, [], Option, None, Some, Result, Ok, Err}
+use Rattle.std.specs.Prelude.{◌≡◌, ℕ, false, List, [], Option, None, Some, Result, Ok, Err}
 use Rattle.pe_view.specs.declared.fault.Fault.{Fault}
+use Rattle.pe_set.specs.Set.{Entry}
 use Rattle.pe_set.specs.declared.binding.Binding.{Binding}
+use Rattle.pe_set.specs.declared.entry.Policy.{Policy}
 use Rattle.pe_space.specs.Content.{Content, window_at, base_at, size_at}
 use Rattle.pe_space.specs.Moves.{move_fault, moved, moved_counts}
+use Rattle.pe_space.specs.SpaceOf.{IsSpaceOf}
+use Rattle.pe_handle.specs.Shared.{SharedContent}
 use Rattle.pe_records_c.specs.Faults.{fault_record}
 use Rattle.pe_records_c.specs.declared.fault.FaultRecord.{FaultRecord}
 use Rattle.pe_records_c.specs.declared.moved.MovedRecord.{MovedRecord}
 use Rattle.pe_records_c.specs.MovedRows.{moved_record}
+
+-- a space of these entries, of which no other handle has been made
+abbrev pub IsOwnSpaceOf : Policy → List Entry → SharedContent → Type 0
+IsOwnSpaceOf policy es owner = IsSpaceOf policy es owner.content × (owner.is_shared ≡ false)
 
 -- a read of n bytes: status 0 and the bytes, 1 and the fault, or 6 if there is no space; the rest is unchanged
 abbrev pub IsWindow : Result (List ℕ) Fault → List ℕ → List ℕ → FaultRecord → FaultRecord → ℕ → Type 0

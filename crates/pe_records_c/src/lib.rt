@@ -31,5 +31,6 @@ pub mod status;
 pub mod symbol;
 pub mod tables;
 pub mod text;
+pub mod unbound;
 pub mod value;
 // end of describe/records.txt

@@ -2,11 +2,9 @@
 
 ghost use Rattle.std.specs.Prelude.{◌≡◌, ◌<◌, IsErrOf, None, length, map};
 ghost use Rattle.pe_view.specs.Faults.{first_standing};
-ghost use Rattle.pe_set.specs.Bindings.{bindings_of};
-ghost use Rattle.pe_set.specs.Set.{modules_of};
 ghost use Rattle.pe_set.specs.SetErrors.{set_error, SetAnswers};
 ghost use Rattle.pe_set.specs.SetFaults.{names_tests};
-ghost use Rattle.pe_set.specs.SetView.{entries_of, entry_view};
+ghost use Rattle.pe_set.specs.SetView.{entries_of, entry_view, IsAcceptedFrom};
 ghost use Rattle.pe_records_c.specs.SetRows.{entry_text, counted, binding_row, policy_of, IsSetTold};
 
 use crate::fault::{FaultRecord, refuse};
@@ -101,7 +99,7 @@ pub fn judged<'a>(
     set: &[EntryRecord<'a>],
     known: bool,
 ) -> Result<Accepted<'a, Global>, MapError>
-    ensures exact { SetAnswers (set_error (policy_of known) (map entry_text set.now)) (λ accepted. accepted.bindings.items ≡ bindings_of (modules_of (map entry_text set.now))) result }
+    ensures exact { SetAnswers (set_error (policy_of known) (map entry_text set.now)) (IsAcceptedFrom (map entry_text set.now)) result }
     ensures named { IsErrOf result MapError.Memory → first_standing (names_tests (map entry_text set.now)) ≡ None }
     ensures not_empty { IsErrOf result MapError.Memory → 0 < length set.now }
 {

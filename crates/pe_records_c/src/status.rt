@@ -16,3 +16,5 @@ pub const ARGUMENT: u32 = 5;
 pub const CLOSED: u32 = 6;
 /// The images of a set have more bytes than the caller allows.
 pub const LARGE: u32 = 7;
+/// Another handle has the space.
+pub const SHARED: u32 = 8;

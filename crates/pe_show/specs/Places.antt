@@ -1,8 +1,7 @@
--- The targets of exports as a page shows them, the fields of relocations in the file, and the end of sections. No contract of a public function uses this module.
-use Rattle.std.specs.Prelude.{◌≡◌, ℕ, ◌+◌, ◌-◌, ◌==◌, ◌&&◌, max, nat_le, nat_lt, List, [], ◌∷◌, Option, None, Some, if◌then◌else◌}
+-- The targets of exports as a page shows them, and the fields of relocations in the file. No contract of a public function uses this module.
+use Rattle.std.specs.Prelude.{◌≡◌, ℕ, ◌+◌, ◌-◌, ◌&&◌, nat_le, nat_lt, List, Option, None, Some, if◌then◌else◌}
 use denote.Bor.{Bor}
 use Rattle.pe_head.specs.declared.headers.Headers.{Headers}
-use Rattle.pe_head.specs.declared.section.SectionHeader.{SectionHeader}
 use Rattle.pe_layout.specs.Locating.{located}
 use Rattle.pe_tables.specs.declared.key.Target.{Target}
 use Rattle.pe_tables.specs.declared.key.Target.TheVariants as exported
@@ -21,12 +20,6 @@ Shows names h (exported.Forward dll key) (Here rva place) = ⊥
 -- in the file, if the section's raw data there, of a size, holds it; addresses count from the section's own
 abbrev pub field_offset : ℕ → ℕ → ℕ → ℕ → Option ℕ
 field_offset pointer base size address = if nat_le base address && nat_lt (address - base) size then Some (pointer + (address - base)) else None
-
--- ---- the end of sections in the file
--- by their headers, SizeOfRawData whole; a section without a pointer has nothing there
-abbrev pub sections_end : List SectionHeader → ℕ
-sections_end [] = 0
-sections_end (s ∷ ss) = max (if s.pointer_to_raw_data == 0 then 0 else s.pointer_to_raw_data + s.size_of_raw_data) (sections_end ss)
 
 -- ---- columns
 -- how many blanks come between the target of an ordinal and its names: a place is padded to `width`, a forwarder is not

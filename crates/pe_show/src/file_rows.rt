@@ -1,30 +1,14 @@
 //! The rows of a page for what an image's file has apart from the headers and the sections.
 
-ghost use Rattle.std.specs.Prelude.{◌≡◌, max};
 ghost use Rattle.pe_text.specs.TextWriter.{IsReady};
 ghost use Rattle.pe_page.specs.Page.{AddsSome};
-ghost use Rattle.pe_show.specs.Places.{sections_end};
 
-use pe_head::{Headers, SectionHeader};
+use pe_head::Headers;
 use pe_page::Cell::{self, Plain};
 use pe_page::{plural, write_cells};
 use pe_text::Part::{Hex, Text};
 use pe_text::{Sink, TextWriter};
-
-/// The greater of an offset and the end of what the headers of sections say is in the file, with the bytes that pad it and are not
-/// laid out.
-fn sections_end(sections: &[SectionHeader], least: u64) -> u64
-    ensures { result ≡ max least (sections_end sections.now) }
-{
-    let mut end = least;
-    for section in sections {
-        if section.pointer_to_raw_data != 0 {
-            let size = u64::from(section.size_of_raw_data);
-            end = end.max(u64::from(section.pointer_to_raw_data) + size);
-        }
-    }
-    end
-}
+use pe_trust::file_end;
 
 /// Adds the row of the symbol table, if there is one.
 fn write_symbol_table<W: Sink>(text: &mut TextWriter<W>, headers: &Headers)
@@ -53,10 +37,7 @@ fn write_overlay<W: Sink>(text: &mut TextWriter<W>, headers: &Headers, len: u64)
     requires { IsReady W.failures text.old }
     ensures { AddsSome W.taken W.failures text.old text.new }
 {
-    let end = sections_end(
-        headers.sections.as_slice(),
-        u64::from(headers.size_of_headers),
-    );
+    let end = file_end(headers);
     if len <= end {
         return;
     }

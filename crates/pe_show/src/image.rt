@@ -26,7 +26,7 @@ use pe_record_pages::{
     write_trust,
 };
 use pe_records::findings;
-use pe_tables::NamesByOrdinal;
+use pe_tables::{Import, NamesByOrdinal};
 use pe_text::Part::Text;
 use pe_text::{Outcome, ShowOptions, Sink, TextWriter};
 use pe_view::Fault;
@@ -41,6 +41,14 @@ fn order_names<A: Allocator + Copy>(
     match (&tables.exports, is_wanted) {
         (Some(exports), true) => NamesByOrdinal::new(alloc, exports),
         _ => Ok(NamesByOrdinal::none(alloc)),
+    }
+}
+
+/// What an image imports, if that was read.
+fn imports_read<'t, 'a, A: Allocator>(tables: &'t Tables<'a, A>) -> Option<&'t [Import<'a>]> {
+    match &tables.imports {
+        Some(imports) => Some(imports.as_slice()),
+        None => None,
     }
 }
 
@@ -69,7 +77,7 @@ fn write_refused<W: Sink>(text: &mut TextWriter<W>, page: &Page, file: ViewFile,
             write_headers(text, page, &headers, None, false);
             let names = SectionNames::new(file, &headers);
             write_sections(text, page, &headers, &names);
-            write_trust(text, page.options, file, &headers);
+            write_trust(text, page.options, file, &headers, None);
             let trust = trust_findings(page.options, file, &headers);
             write_findings(text, page.options, &[], &trust);
             write_refusal(text, page.options, outcome, file);
@@ -125,7 +133,7 @@ fn write_image<A: Allocator + Copy, W: Sink>(
     write_imports(text, page.options, tables);
     write_fixups(text, page.options, tables);
     write_beyond(text, page.options, image, &names);
-    write_trust(text, page.options, file, headers);
+    write_trust(text, page.options, file, headers, imports_read(tables));
     write_findings(text, page.options, findings, trust);
     write_refusal(text, page.options, outcome, file);
 }

@@ -20,7 +20,7 @@ use std::alloc::Allocator;
 /// for finding each; checking allocates more for a while.
 pub fn open_space<'a, A: Allocator + Copy>(
     alloc: A,
-    set: &'a [SetEntry<'a>],
+    set: &[SetEntry<'a>],
     policy: Policy,
 ) -> Result<FileSpace<'a, A>, MapError>
     ensures exact { SetAnswers (set_error policy (entries_of set.now)) (IsSpaceOf policy (entries_of set.now)) result }

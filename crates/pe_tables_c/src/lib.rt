@@ -20,4 +20,4 @@ pub mod items;
 pub mod name;
 pub mod pdb;
 pub mod tls;
-mod told;
+pub mod told;

@@ -5,7 +5,7 @@ ghost use Rattle.pe_tables_c.specs.Told.{TellsRecord};
 use pe_records_c::status;
 
 /// Stores a record, and returns the status: 0, or 3 if there is none, which leaves the caller's unchanged.
-pub(crate) fn put_record<R: Copy>(found: Option<R>, told: &mut R) -> u32
+pub fn put_record<R: Copy>(found: Option<R>, told: &mut R) -> u32
     ensures { TellsRecord (λ r. r) found told.old told.new result }
 {
     match found {

@@ -7,7 +7,10 @@ ghost use Rattle.pe_text.specs.Text.{hex, hex_at_least, is_plain, escaped, quote
 use crate::device::{Failed, Sink};
 use crate::digits::{DIGITS, hex_digits, hex_width};
 use arrayvec::ArrayVec;
-use itoa::Buffer;
+use itoa::write_digits;
+
+/// The most decimal digits that a number has.
+const DECIMAL_DIGITS: usize = 20;
 
 /// Writes text to a sink in pieces of at most 256 bytes.
 ///
@@ -149,8 +152,9 @@ impl<'w, W: Sink> TextWriter<'w, W> {
         requires { IsReady W.failures self.old }
         ensures { Adds W.taken W.failures self.old self.new (decimal number) }
     {
-        let mut buffer = Buffer::new();
-        self.text(buffer.format(number).as_bytes());
+        let mut digits = [0; DECIMAL_DIGITS];
+        let start = write_digits(number, &mut digits, DECIMAL_DIGITS);
+        self.text(&digits[start..]);
     }
 
     /// Adds the last `width` hexadecimal digits of a number.

@@ -11,7 +11,7 @@ use Rattle.pe_layout.specs.Image.{image_of_file}
 use Rattle.pe_layout.specs.SectionFaults.{layout_tests, placing_tests}
 use Rattle.pe_image.specs.ImageTests.{relocation_tests}
 use Rattle.pe_tables.specs.Fixups.{fixups_of}
-use Rattle.pe_write.specs.Rebase.{rebased}
+use Rattle.pe_write.specs.Summed.{rebased_as}
 use Rattle.pe_write.specs.RebaseFaults.{rebase_tests, own_base_tests, data_tests}
 use Rattle.pe_view.specs.declared.refusal.Refusal.{Refusal}
 use Rattle.pe_text.specs.declared.outcome.Outcome.{Outcome}
@@ -50,29 +50,29 @@ idle taken count = record { taken = taken; taken' = taken; count = count; count'
 got_none : (taken : List ℕ) (count : ℕ) → Gets (idle taken count) []
 got_none taken count = (sym (append-nil taken), refl)
 
-module _ (base : ℕ) (given given' : List ℕ) (ended : Bool) where
+module _ (check_sum : Bool) (base : ℕ) (given given' : List ℕ) (ended : Bool) where
   module _ (input : List ℕ) (reads : given' ≡ given ++ input) (limit : length input ≤ 2 ^ 32 + 1) where
     -- memory ran out
-    pub ran_out_of_memory : (to t : List ℕ) (o w : ℕ) → 0 < length input → RebaseRan base given given' (idle to o) (idle t w) ended (Err Memory)
+    pub ran_out_of_memory : (to t : List ℕ) (o w : ℕ) → 0 < length input → RebaseRan check_sum base given given' (idle to o) (idle t w) ended (Err Memory)
     ran_out_of_memory to t o w some = record { input = input; reads = reads; writes = (got_none to o, got_none t w); limit = limit; whole = tt; memory = λ _. some }
 
     module _ (whole : IsWhole ended input) where
       -- the line was written after `out` got its bytes
-      pub ran_told : (outcome : Outcome) (out writer : Output) (result : Result Outcome ToolError) → IsOutcome input base outcome → Gets out (outcome_bytes input base outcome) → PutsLine base outcome writer result
-          → RebaseRan base given given' out writer ended result
+      pub ran_told : (outcome : Outcome) (out writer : Output) (result : Result Outcome ToolError) → IsOutcome input base outcome → Gets out (outcome_bytes check_sum input base outcome) → PutsLine base outcome writer result
+          → RebaseRan check_sum base given given' out writer ended result
       ran_told outcome out writer (Ok told) is got puts = rw puts.0 (record { input = input; reads = reads; writes = (is, got, puts.1); limit = limit; whole = whole; memory = λ e. cc })
       ran_told outcome out writer (Err Read) is got puts = absurd puts
       ran_told outcome out writer (Err Write) is got puts = record { input = input; reads = reads; writes = inr (outcome, is, got, puts); limit = limit; whole = whole; memory = λ e. cc }
       ran_told outcome out writer (Err Memory) is got puts = absurd puts
 
       -- a write of the new file failed
-      pub ran_short : (out : Output) (t : List ℕ) (w : ℕ) (bytes : List ℕ) → first_standing (rebase_tests input base) ≡ None → bytes ≡ rebased input base
-          → ((k : ℕ) × (out.taken' ≡ out.taken ++ take k bytes)) × (out.count' ≡ out.count + 1) → RebaseRan base given given' out (idle t w) ended (Err Write)
+      pub ran_short : (out : Output) (t : List ℕ) (w : ℕ) (bytes : List ℕ) → first_standing (rebase_tests input base) ≡ None → bytes ≡ rebased_as check_sum input base
+          → ((k : ℕ) × (out.taken' ≡ out.taken ++ take k bytes)) × (out.count' ≡ out.count + 1) → RebaseRan check_sum base given given' out (idle t w) ended (Err Write)
       ran_short out t w bytes none is wrote =
           let part : List ℕ = take wrote.0.0 bytes in
           record { input = input; reads = reads; writes = inl (none, (part, wrote.0.1, (drop wrote.0.0 bytes, sym is_all), wrote.1), got_none t w); limit = limit; whole = whole; memory = λ e. cc }
         where
-          is_all : take wrote.0.0 bytes ++ drop wrote.0.0 bytes ≡ rebased input base
+          is_all : take wrote.0.0 bytes ++ drop wrote.0.0 bytes ≡ rebased_as check_sum input base
           is_all = subst (λ (xs : List ℕ). take wrote.0.0 bytes ++ drop wrote.0.0 bytes ≡ xs) is (take-append-drop wrote.0.0 bytes)
 
 -- a fault of the headers is the first of all

@@ -20,7 +20,8 @@ use Rattle.pe_text.specs.declared.outcome.Outcome.TheVariants.{Done, Refused}
 use Rattle.pe_reach.specs.Reach.{SameAnswers}
 use Rattle.pe_tool.specs.SameSets.{AreSameSets}
 use Rattle.pe_tool.specs.MapReport.{IsMapText, IsRefusalText, window_fault, map_text}
-use Rattle.pe_tool.specs.UnboundImports.{IsUnboundText, unbound_of, unbound_line}
+use Rattle.pe_unbound.specs.Unbound.{unbound_of}
+use Rattle.pe_tool.specs.UnboundImports.{IsUnboundText, unbound_line}
 
 module_agrees : (n : ℕ) (e f : Entry) → e.name ≡ f.name → e.base ≡ f.base → SameAnswers e.file f.file → module_of n e ≡ module_of n f
 module_agrees n e f name base same = λ i. module_from (name i) (base i) (same.headers i).magic (same.image n i)

@@ -2,7 +2,7 @@
 use Rattle.std.specs.Prelude.{◌≡◌, ◌+◌, ◌<◌, ◌≤◌, ◌^◌, ◌⊎◌, ℕ, Bool, List, [], ◌∷◌, ◌++◌, codes, length, None, Some, Result, Ok, Err, IsErrOf}
 use Rattle.pe_view.specs.declared.fault.Fault.{Fault}
 use Rattle.pe_view.specs.Faults.{first_standing}
-use Rattle.pe_write.specs.Rebase.{rebased}
+use Rattle.pe_write.specs.Summed.{rebased_as}
 use Rattle.pe_write.specs.RebaseFaults.{rebase_tests}
 use Rattle.pe_text.specs.declared.outcome.Outcome.{Outcome}
 use Rattle.pe_text.specs.declared.outcome.Outcome.TheVariants.{Done, Refused}
@@ -23,10 +23,10 @@ abbrev pub IsOutcome : List ℕ → ℕ → Outcome → Type 0
 IsOutcome file base Done = first_standing (rebase_tests file base) ≡ None
 IsOutcome file base (Refused fault) = first_standing (rebase_tests file base) ≡ Some fault
 
--- the bytes for the one output, and for the other
-abbrev pub outcome_bytes : List ℕ → ℕ → Outcome → List ℕ
-outcome_bytes file base Done = rebased file base
-outcome_bytes file base (Refused fault) = []
+-- the bytes for the one output, with the CheckSum of the new file if it is asked for, and for the other
+abbrev pub outcome_bytes : Bool → List ℕ → ℕ → Outcome → List ℕ
+outcome_bytes check_sum file base Done = rebased_as check_sum file base
+outcome_bytes check_sum file base (Refused fault) = []
 
 abbrev pub outcome_line : ℕ → Outcome → List ℕ
 outcome_line base Done = rebased_line base
@@ -48,23 +48,23 @@ abbrev pub GetsPart : Output → List ℕ → Type 0
 GetsPart o piece = (part : List ℕ) × (o.taken' ≡ o.taken ++ part) × IsBeginning part piece × (o.count' ≡ o.count + 1)
 
 -- a write of the new file failed, and the line was not begun; or a write of the line failed, after `out` got its bytes
-abbrev pub StopsShort : List ℕ → ℕ → Output → Output → Type 0
-StopsShort file base out writer =
-    ((first_standing (rebase_tests file base) ≡ None) × GetsPart out (rebased file base) × Gets writer [])
-    ⊎ ((outcome : Outcome) × IsOutcome file base outcome × Gets out (outcome_bytes file base outcome) × GetsPart writer (outcome_line base outcome))
+abbrev pub StopsShort : Bool → List ℕ → ℕ → Output → Output → Type 0
+StopsShort check_sum file base out writer =
+    ((first_standing (rebase_tests file base) ≡ None) × GetsPart out (rebased_as check_sum file base) × Gets writer [])
+    ⊎ ((outcome : Outcome) × IsOutcome file base outcome × Gets out (outcome_bytes check_sum file base outcome) × GetsPart writer (outcome_line base outcome))
 
 -- what both outputs got, by the result of the engine
-abbrev pub WritesBoth : List ℕ → ℕ → Output → Output → Result Outcome ToolError → Type 0
-WritesBoth file base out writer (Ok outcome) = IsOutcome file base outcome × Gets out (outcome_bytes file base outcome) × Gets writer (outcome_line base outcome)
-WritesBoth file base out writer (Err Read) = Gets out [] × Gets writer []
-WritesBoth file base out writer (Err Write) = StopsShort file base out writer
-WritesBoth file base out writer (Err Memory) = Gets out [] × Gets writer []
+abbrev pub WritesBoth : Bool → List ℕ → ℕ → Output → Output → Result Outcome ToolError → Type 0
+WritesBoth check_sum file base out writer (Ok outcome) = IsOutcome file base outcome × Gets out (outcome_bytes check_sum file base outcome) × Gets writer (outcome_line base outcome)
+WritesBoth check_sum file base out writer (Err Read) = Gets out [] × Gets writer []
+WritesBoth check_sum file base out writer (Err Write) = StopsShort check_sum file base out writer
+WritesBoth check_sum file base out writer (Err Memory) = Gets out [] × Gets writer []
 
 -- what `rebase` reads and writes
-pub record RebaseRan (base : ℕ) (given given' : List ℕ) (out writer : Output) (ended : Bool) (result : Result Outcome ToolError) : Type 0 where
+pub record RebaseRan (check_sum : Bool) (base : ℕ) (given given' : List ℕ) (out writer : Output) (ended : Bool) (result : Result Outcome ToolError) : Type 0 where
   pub input : List ℕ
   pub reads : given' ≡ given ++ input
-  pub writes : WritesBoth input base out writer result
+  pub writes : WritesBoth check_sum input base out writer result
   pub limit : length input ≤ 2 ^ 32 + 1
   pub whole : OnJudged result (IsWhole ended input)
   pub memory : IsErrOf result Memory → 0 < length input

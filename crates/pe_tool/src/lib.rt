@@ -26,7 +26,7 @@ pub use coff_lines::{dump_object, object_text};
 pub use object_sized::dump_object_sized;
 pub use pe_at::{Spot, at, at_each, at_each_sized, at_each_text, at_sized};
 pub use pe_detail::{Detail, DetailText, fault_detail};
-pub use pe_json::{json, json_parts, json_sized};
+pub use pe_json::{Beyond, json, json_parts, json_sized};
 pub use pe_lines::{
     check, check_parts, check_sized, check_text, dump, dump_parts, dump_sized, dump_text, sum,
     sum_sized, sum_text,
@@ -39,7 +39,7 @@ pub use pe_text::{
     Counted, Failed, FaultText, FaultWords, FileKind, Outcome, Sink, Source, ToolError,
     fault_words, file_kind, other_kind, read_whole, status, write_refusal,
 };
-pub use pe_words::{AtPlace, Colours, MapFile, WordsError};
-pub use rebasing::{rebase, rebase_sized};
+pub use pe_words::{AtPlace, Colours, JsonOptions, MapFile, WordsError};
+pub use rebasing::{rebase, rebase_sized, rebase_summed, rebase_summed_sized};
 pub use set_report::{map_report, map_report_unbound};
 pub use words::{Job, parse_words};

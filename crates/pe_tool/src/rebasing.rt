@@ -1,6 +1,12 @@
-//! `rebase` and `rebase_sized`: write the file of an image for another base to one output, and a line about it to another.
+//! `rebase`, `rebase_summed` and their sisters for a known size: write the file of an image for another base to one output, and a line about it to another.
 
-ghost use Rattle.std.specs.Prelude.{◌-◌, ◌^◌, ◌<◌, ◌⊎◌, ◌↔◌, IsErrOf};
+ghost use Rattle.std.specs.Prelude.{◌≡◌, ◌-◌, ◌^◌, ◌<◌, ◌⊎◌, ◌↔◌, Some, Err, IsErrOf, true, false};
+ghost use Rattle.pe_view.specs.declared.fault.Fault as code_fault;
+ghost use Rattle.pe_view.specs.declared.refusal.Refusal.{Refusal};
+ghost use Rattle.pe_view.specs.Faults.{AnswersOrWants, first_standing};
+ghost use Rattle.pe_layout.specs.SectionFaults.{layout_tests};
+ghost use Rattle.pe_write.specs.Summed.{rebased_as};
+ghost use Rattle.pe_write.specs.RebaseFaults.{rebase_tests};
 ghost use Rattle.pe_text.specs.TextWriter.{IsReady, Adds};
 ghost use Rattle.pe_tool.specs.RebaseRun.{PutsLine, RebaseRan, RefusesSize, outcome_line, rebased_line};
 
@@ -10,7 +16,7 @@ use pe_text::{
     Outcome, Sink, Source, TextWriter, ToolError, read_whole, write_all, write_fault_line,
     write_parts,
 };
-use pe_write::{WriteError, rebase_file};
+use pe_write::{WriteError, rebase_file, rebase_file_summed};
 use std::alloc::Allocator;
 
 /// Adds the line `rebased` with the base.
@@ -46,6 +52,84 @@ fn tell<W: Sink>(writer: &mut W, base: u64, outcome: Outcome) -> Result<Outcome,
     }
 }
 
+/// The file of an image for another base, with its CheckSum if that is asked for.
+fn new_file<A: Allocator + Copy>(
+    alloc: A,
+    file: &[u8],
+    base: u64,
+    check_sum: bool,
+) -> Result<Vec<u8, A>, WriteError>
+    ensures exact { AnswersOrWants (rebase_tests file.now base) (λ bytes. bytes.items ≡ rebased_as check_sum file.now base) result }
+    ensures early { (fault : code_fault.Fault) → first_standing (layout_tests 0 file.now) ≡ Some fault → result ≡ Err (Refusal.Fault fault) }
+{
+    if check_sum {
+        rebase_file_summed(alloc, file, base)
+    } else {
+        rebase_file(alloc, file, base)
+    }
+}
+
+/// Writes the new file to `out` and its line to `writer`, or the line of the first fault.
+fn write_rebased<A: Allocator + Copy, R: Source, O: Sink, W: Sink>(
+    alloc: A,
+    reader: &mut R,
+    base: u64,
+    check_sum: bool,
+    out: &mut O,
+    writer: &mut W,
+) -> Result<Outcome, ToolError>
+    requires reads { R.failures reader.old < 2 ^ 64 - 1 }
+    requires outs { O.failures out.old < 2 ^ 64 - 1 }
+    requires writes { W.failures writer.old < 2 ^ 64 - 1 }
+    ensures ran { RebaseRan check_sum base (R.given reader.old) (R.given reader.new)
+        (record { taken = O.taken out.old; taken' = O.taken out.new; count = O.failures out.old; count' = O.failures out.new })
+        (record { taken = W.taken writer.old; taken' = W.taken writer.new; count = W.failures writer.old; count' = W.failures writer.new })
+        (R.ended reader.new) result }
+    ensures read { IsErrOf result ToolError.Read ↔ (R.failures reader.old < R.failures reader.new) }
+    ensures write { IsErrOf result ToolError.Write ↔ ((O.failures out.old < O.failures out.new) ⊎ (W.failures writer.old < W.failures writer.new)) }
+{
+    let file = read_whole(alloc, reader)?;
+    let bytes = match new_file(alloc, &file, base, check_sum) {
+        Ok(bytes) => bytes,
+        Err(WriteError::Fault(fault)) => return tell(writer, base, Outcome::Refused(fault)),
+        Err(WriteError::Memory) => return Err(ToolError::Memory),
+    };
+    match write_all(out, &bytes) {
+        Ok(()) => tell(writer, base, Outcome::Done),
+        Err(_) => Err(ToolError::Write),
+    }
+}
+
+/// The same for a file of `len` bytes.
+fn write_rebased_sized<A: Allocator + Copy, R: Source, O: Sink, W: Sink>(
+    alloc: A,
+    reader: &mut R,
+    len: u64,
+    base: u64,
+    check_sum: bool,
+    out: &mut O,
+    writer: &mut W,
+) -> Result<Outcome, ToolError>
+    requires reads { R.failures reader.old < 2 ^ 64 - 1 }
+    requires outs { O.failures out.old < 2 ^ 64 - 1 }
+    requires writes { W.failures writer.old < 2 ^ 64 - 1 }
+    ensures ran { RebaseRan check_sum base (R.given reader.old) (R.given reader.new)
+        (record { taken = O.taken out.old; taken' = O.taken out.new; count = O.failures out.old; count' = O.failures out.new })
+        (record { taken = W.taken writer.old; taken' = W.taken writer.new; count = W.failures writer.old; count' = W.failures writer.new })
+        (R.ended reader.new) result
+        ⊎ RefusesSize base len (R.given reader.old) (R.given reader.new)
+        (record { taken = O.taken out.old; taken' = O.taken out.new; count = O.failures out.old; count' = O.failures out.new })
+        (record { taken = W.taken writer.old; taken' = W.taken writer.new; count = W.failures writer.old; count' = W.failures writer.new })
+        result }
+    ensures read { IsErrOf result ToolError.Read ↔ (R.failures reader.old < R.failures reader.new) }
+    ensures write { IsErrOf result ToolError.Write ↔ ((O.failures out.old < O.failures out.new) ⊎ (W.failures writer.old < W.failures writer.new)) }
+{
+    match size_fault(len) {
+        Some(fault) => tell(writer, base, Outcome::Refused(fault)),
+        None => write_rebased(alloc, reader, base, check_sum, out, writer),
+    }
+}
+
 /// Writes to `out` the file of an image for another base, which `pe_write::rebase_file` makes from the file that comes from the
 /// reader, and then to `writer` the line `rebased 0x` with 16 digits of the base; or writes to `writer` the line of the first
 /// fault, and nothing to `out`.
@@ -65,23 +149,14 @@ pub fn rebase<A: Allocator + Copy, R: Source, O: Sink, W: Sink>(
     requires reads { R.failures reader.old < 2 ^ 64 - 1 }
     requires outs { O.failures out.old < 2 ^ 64 - 1 }
     requires writes { W.failures writer.old < 2 ^ 64 - 1 }
-    ensures ran { RebaseRan base (R.given reader.old) (R.given reader.new)
+    ensures ran { RebaseRan false base (R.given reader.old) (R.given reader.new)
         (record { taken = O.taken out.old; taken' = O.taken out.new; count = O.failures out.old; count' = O.failures out.new })
         (record { taken = W.taken writer.old; taken' = W.taken writer.new; count = W.failures writer.old; count' = W.failures writer.new })
         (R.ended reader.new) result }
     ensures read { IsErrOf result ToolError.Read ↔ (R.failures reader.old < R.failures reader.new) }
     ensures write { IsErrOf result ToolError.Write ↔ ((O.failures out.old < O.failures out.new) ⊎ (W.failures writer.old < W.failures writer.new)) }
 {
-    let file = read_whole(alloc, reader)?;
-    let bytes = match rebase_file(alloc, &file, base) {
-        Ok(bytes) => bytes,
-        Err(WriteError::Fault(fault)) => return tell(writer, base, Outcome::Refused(fault)),
-        Err(WriteError::Memory) => return Err(ToolError::Memory),
-    };
-    match write_all(out, &bytes) {
-        Ok(()) => tell(writer, base, Outcome::Done),
-        Err(_) => Err(ToolError::Write),
-    }
+    write_rebased(alloc, reader, base, false, out, writer)
 }
 
 /// [`rebase`] for a file of `len` bytes: nothing is read of one that is larger than any image's file may be, and nothing is written
@@ -99,7 +174,7 @@ pub fn rebase_sized<A: Allocator + Copy, R: Source, O: Sink, W: Sink>(
     requires reads { R.failures reader.old < 2 ^ 64 - 1 }
     requires outs { O.failures out.old < 2 ^ 64 - 1 }
     requires writes { W.failures writer.old < 2 ^ 64 - 1 }
-    ensures ran { RebaseRan base (R.given reader.old) (R.given reader.new)
+    ensures ran { RebaseRan false base (R.given reader.old) (R.given reader.new)
         (record { taken = O.taken out.old; taken' = O.taken out.new; count = O.failures out.old; count' = O.failures out.new })
         (record { taken = W.taken writer.old; taken' = W.taken writer.new; count = W.failures writer.old; count' = W.failures writer.new })
         (R.ended reader.new) result
@@ -110,8 +185,56 @@ pub fn rebase_sized<A: Allocator + Copy, R: Source, O: Sink, W: Sink>(
     ensures read { IsErrOf result ToolError.Read ↔ (R.failures reader.old < R.failures reader.new) }
     ensures write { IsErrOf result ToolError.Write ↔ ((O.failures out.old < O.failures out.new) ⊎ (W.failures writer.old < W.failures writer.new)) }
 {
-    match size_fault(len) {
-        Some(fault) => tell(writer, base, Outcome::Refused(fault)),
-        None => rebase(alloc, reader, base, out, writer),
-    }
+    write_rebased_sized(alloc, reader, len, base, false, out, writer)
+}
+
+/// [`rebase`], but the new file has its CheckSum, as `pe_write::rebase_file_summed` writes it.
+///
+/// The outputs, the errors and the conditions are those of [`rebase`].
+pub fn rebase_summed<A: Allocator + Copy, R: Source, O: Sink, W: Sink>(
+    alloc: A,
+    reader: &mut R,
+    base: u64,
+    out: &mut O,
+    writer: &mut W,
+) -> Result<Outcome, ToolError>
+    requires reads { R.failures reader.old < 2 ^ 64 - 1 }
+    requires outs { O.failures out.old < 2 ^ 64 - 1 }
+    requires writes { W.failures writer.old < 2 ^ 64 - 1 }
+    ensures ran { RebaseRan true base (R.given reader.old) (R.given reader.new)
+        (record { taken = O.taken out.old; taken' = O.taken out.new; count = O.failures out.old; count' = O.failures out.new })
+        (record { taken = W.taken writer.old; taken' = W.taken writer.new; count = W.failures writer.old; count' = W.failures writer.new })
+        (R.ended reader.new) result }
+    ensures read { IsErrOf result ToolError.Read ↔ (R.failures reader.old < R.failures reader.new) }
+    ensures write { IsErrOf result ToolError.Write ↔ ((O.failures out.old < O.failures out.new) ⊎ (W.failures writer.old < W.failures writer.new)) }
+{
+    write_rebased(alloc, reader, base, true, out, writer)
+}
+
+/// [`rebase_sized`], but the new file has its CheckSum.
+///
+/// The outputs, the errors and the conditions are those of [`rebase`].
+pub fn rebase_summed_sized<A: Allocator + Copy, R: Source, O: Sink, W: Sink>(
+    alloc: A,
+    reader: &mut R,
+    len: u64,
+    base: u64,
+    out: &mut O,
+    writer: &mut W,
+) -> Result<Outcome, ToolError>
+    requires reads { R.failures reader.old < 2 ^ 64 - 1 }
+    requires outs { O.failures out.old < 2 ^ 64 - 1 }
+    requires writes { W.failures writer.old < 2 ^ 64 - 1 }
+    ensures ran { RebaseRan true base (R.given reader.old) (R.given reader.new)
+        (record { taken = O.taken out.old; taken' = O.taken out.new; count = O.failures out.old; count' = O.failures out.new })
+        (record { taken = W.taken writer.old; taken' = W.taken writer.new; count = W.failures writer.old; count' = W.failures writer.new })
+        (R.ended reader.new) result
+        ⊎ RefusesSize base len (R.given reader.old) (R.given reader.new)
+        (record { taken = O.taken out.old; taken' = O.taken out.new; count = O.failures out.old; count' = O.failures out.new })
+        (record { taken = W.taken writer.old; taken' = W.taken writer.new; count = W.failures writer.old; count' = W.failures writer.new })
+        result }
+    ensures read { IsErrOf result ToolError.Read ↔ (R.failures reader.old < R.failures reader.new) }
+    ensures write { IsErrOf result ToolError.Write ↔ ((O.failures out.old < O.failures out.new) ⊎ (W.failures writer.old < W.failures writer.new)) }
+{
+    write_rebased_sized(alloc, reader, len, base, true, out, writer)
 }

@@ -12,12 +12,14 @@ ghost use Rattle.pe_set.specs.SetFaults.{names_tests};
 ghost use Rattle.pe_set.specs.SetView.{entries_of, modules_view};
 ghost use Rattle.pe_set.specs.declared.binding.Binding.{Binding};
 ghost use Rattle.pe_text.specs.TextWriter.{IsReady, Adds};
-ghost use Rattle.pe_tool.specs.UnboundImports.{unbound_import, unbound_of, unbound_line, unbound_view, after_slot, kept_unless, told_after, HaveOwnSlots};
+ghost use Rattle.pe_unbound.specs.Unbound.{unbound_import, unbound_of, after_slot, kept_unless, HaveOwnSlots};
+ghost use Rattle.pe_tool.specs.UnboundImports.{unbound_line, unbound_view, told_after};
 
 use pe_lines::write_key;
 use pe_set::{Binding, MapError, Module, Policy, SetEntry, judge};
 use pe_tables::Import;
 use pe_text::{Outcome, Sink, TextWriter};
+use pe_unbound::after_slot;
 use std::alloc::{AllocError, Allocator};
 
 /// An import that is bound to nothing.
@@ -26,17 +28,6 @@ pub(crate) struct UnboundImport<'a> {
     /// The number of its image.
     image: u16,
     import: Import<'a>,
-}
-
-/// The bindings after the first, if that is of this slot of an image.
-fn after_slot(bindings: &[Binding], image: u16, slot: u32) -> Option<&[Binding]>
-    ensures { option_map (λ left. left.now) result ≡ after_slot bindings.now image slot }
-{
-    let (binding, left) = bindings.split_first()?;
-    if binding.image != image || binding.slot != slot {
-        return None;
-    }
-    Some(left)
 }
 
 /// Adds an import of an image unless the first binding is that of its slot, and returns the bindings of later imports.

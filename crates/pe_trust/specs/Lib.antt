@@ -8,8 +8,10 @@ pub mod CheckSum
 pub mod Der
 pub mod DerView
 pub mod Digests
+pub mod DigestsView
 pub mod Names
 pub mod Overlay
+pub mod OverlayKinds
 pub mod Rich
 pub mod RichTests
 pub mod RichView

@@ -20,8 +20,11 @@ mod certified;
 mod der;
 mod digests;
 mod entries;
+mod file_digests;
+pub mod laws;
 mod name;
 mod overlay;
+mod overlay_data;
 mod rich;
 mod rich_pairs;
 mod rich_rule;
@@ -37,8 +40,10 @@ pub use digests::{
     DigestAlgorithm, authenticode_sha1, authenticode_sha256, authenticode_sha384,
     authenticode_sha512,
 };
+pub use file_digests::FileDigests;
 pub use name::common_name;
 pub use overlay::file_end;
+pub use overlay_data::{OverlayKind, overlay_kind};
 pub use rich::rich_header;
 pub use rich_rule::rich_finding;
 pub use rich_words::{RichHeader, RichPair};

@@ -57,7 +57,8 @@ pub(crate) fn rich_mark(file: View, headers: &Headers) -> Option<u32>
 fn rich_before(file: View, mark: u32) -> Option<RichHeader>
     requires inside { 4 * mark + 8 ≤ size_of file }
     requires small { mark < 2 ^ 30 }
-    ensures { option_map rich_view result ≡ rich_before (bytes_of file.entry) mark }
+    ensures value { option_map rich_view result ≡ rich_before (bytes_of file.entry) mark }
+    ensures same { IfSome result (λ header. bytes_of header.file ≡ bytes_of file.entry) }
 {
     let key = word(file, mark + 1);
     let start = last_mark(file, key, DANS, mark)?;
@@ -71,7 +72,8 @@ fn rich_before(file: View, mark: u32) -> Option<RichHeader>
 
 /// The Rich header of an image's file, or `None` if there is no `Rich` with its key before the signature, or no `DanS` before that.
 pub fn rich_header<'a>(file: View<'a>, headers: &Headers) -> Option<RichHeader<'a>>
-    ensures { option_map rich_view result ≡ rich_of (bytes_of file.entry) headers.now.pe_offset }
+    ensures value { option_map rich_view result ≡ rich_of (bytes_of file.entry) headers.now.pe_offset }
+    ensures same { IfSome result (λ header. bytes_of header.file ≡ bytes_of file.entry) }
 {
     let mark = rich_mark(file, headers)?;
     rich_before(file, mark)

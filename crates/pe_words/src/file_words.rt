@@ -4,7 +4,7 @@ ghost use Rattle.std.specs.Prelude.{◌≡◌, Some, None, IfOk, IfErr, OnErr};
 ghost use Rattle.pe_words.specs.Colours.{colour_word, colours_named, IsShow};
 
 use crate::builders::{argument, flag, new_command, required_argument, with_argument};
-use crate::job::{Colours, Job};
+use crate::job::{Colours, Job, JsonOptions};
 use crate::word_values::{BadValue, NoJob, size_of};
 use clap::{Arg, ArgAction, ArgMatches, Command};
 use pe_text::ShowOptions;
@@ -20,8 +20,8 @@ pub(crate) struct FileCommand {
     file: &'static str,
     /// Whether it takes several files.
     takes_several: bool,
-    /// Whether it has the option `--all` for tables beyond the profile.
-    has_all: bool,
+    /// Whether it has the options for what is beyond the profile: `--all`, `--functions` and `--no-digest`.
+    has_beyond: bool,
     /// Whether it has the option `--most`.
     has_most: bool,
 }
@@ -32,18 +32,18 @@ pub(crate) const SHOW: FileCommand = FileCommand {
     about: "Prints a page on each image or object: what it is, its sections and its tables, or its first fault",
     file: "Images or objects, or - for standard input",
     takes_several: true,
-    has_all: false,
+    has_beyond: false,
     has_most: true,
 };
 
-/// The file commands that have no options but `--all` and `--most`.
+/// The file commands that have no options but `--most`, and those for what is beyond the profile.
 pub(crate) const FILE_COMMANDS: [FileCommand; 5] = [
     FileCommand {
         name: "check",
         about: "Prints one line for each image: accepted, with its format and number of sections, or its first fault",
         file: "Images, or - for standard input",
         takes_several: true,
-        has_all: false,
+        has_beyond: false,
         has_most: false,
     },
     FileCommand {
@@ -51,7 +51,7 @@ pub(crate) const FILE_COMMANDS: [FileCommand; 5] = [
         about: "Prints an image's header fields, directories, sections, exports, imports and base relocations, one per line, or its first fault",
         file: "An image, or - for standard input",
         takes_several: false,
-        has_all: false,
+        has_beyond: false,
         has_most: true,
     },
     FileCommand {
@@ -59,7 +59,7 @@ pub(crate) const FILE_COMMANDS: [FileCommand; 5] = [
         about: "Prints a COFF object's sections, relocations, symbols and auxiliary records, one per line, or its first fault",
         file: "An object, or - for standard input",
         takes_several: false,
-        has_all: false,
+        has_beyond: false,
         has_most: true,
     },
     FileCommand {
@@ -67,7 +67,7 @@ pub(crate) const FILE_COMMANDS: [FileCommand; 5] = [
         about: "Prints each image or object, and its first fault if it is refused, as one line of JSON",
         file: "Images or objects, or - for standard input",
         takes_several: true,
-        has_all: true,
+        has_beyond: true,
         has_most: true,
     },
     FileCommand {
@@ -75,14 +75,20 @@ pub(crate) const FILE_COMMANDS: [FileCommand; 5] = [
         about: "Prints one line for each image: its CheckSum field, and what it is to hold, or the first fault of its headers",
         file: "Images, or - for standard input",
         takes_several: true,
-        has_all: false,
+        has_beyond: false,
         has_most: false,
     },
 ];
 
 /// The help on `--all` of `json`.
 const ALL: &str =
-    "Adds debug data, the PDB file, the number of functions, TLS, the load configuration, bound imports, the CLR header, and the findings in these";
+    "Adds debug data, the PDB file, the number of functions, TLS, the load configuration, bound imports, the CLR header, CheckSum as it is to be, certificates, what comes after the image, the Rich header, and the findings in these";
+
+/// The help on `--functions` of `json`.
+const FUNCTIONS: &str = "Adds each function of the exception table too, to what --all adds";
+
+/// The help on `--no-digest`.
+const NO_DIGEST: &str = "Leaves out of this what the whole file is added up or hashed for";
 
 /// The help on `--most`.
 const MOST: &str =
@@ -133,8 +139,10 @@ fn most_option<'a>(alloc: Global) -> Arg<'a> {
 fn unlimited_command<'a>(alloc: Global, row: FileCommand) -> Result<Command<'a>, AllocError> {
     let command = Ok(new_command(alloc, row.name, row.about));
     let command = with_argument(command, file_argument(alloc, row));
-    if row.has_all {
-        with_argument(command, flag(alloc, "all", ALL))
+    if row.has_beyond {
+        let command = with_argument(command, flag(alloc, "all", ALL));
+        let command = with_argument(command, flag(alloc, "functions", FUNCTIONS));
+        with_argument(command, flag(alloc, "no-digest", NO_DIGEST))
     } else {
         command
     }
@@ -302,6 +310,18 @@ fn show_job<'a, P>(
     }
 }
 
+/// What `json` tells beyond the profile: all or nothing, and each function if they are asked for.
+fn beyond_of(found: &ArgMatches) -> Option<JsonOptions> {
+    let functions = found.get_flag("functions");
+    if !found.get_flag("all") && !functions {
+        return None;
+    }
+    Some(JsonOptions {
+        functions,
+        digests: !found.get_flag("no-digest"),
+    })
+}
+
 /// The job of a file command, with at most `most` bytes of output, or `None` for another command.
 fn limited_job<'a, P>(
     alloc: Global,
@@ -312,7 +332,7 @@ fn limited_job<'a, P>(
     let job = match name {
         "show" => show_job(alloc, found, most)?,
         "json" => Job::Json {
-            all: found.get_flag("all"),
+            beyond: beyond_of(found),
             most,
             files: files_of(alloc, found)?,
         },

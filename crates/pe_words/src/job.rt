@@ -35,6 +35,15 @@ pub enum AtPlace {
     InSection { section: String, offset: u32 },
 }
 
+/// What a line of `json` tells of an image beyond its profile.
+#[derive(Clone, Copy, Debug, PartialEq, Eq)]
+pub struct JsonOptions {
+    /// Each function of the exception table.
+    pub functions: bool,
+    /// CheckSum as it is to be, and digests.
+    pub digests: bool,
+}
+
 /// What the words say to do.
 #[derive(Debug, Drop, PartialEq, Eq)]
 pub enum Job<P> {
@@ -54,10 +63,10 @@ pub enum Job<P> {
         most: Option<u64>,
         files: Vec<String>,
     },
-    /// `json FILE...`: write the content of each image or object as a line of JSON, with at most this many bytes. `all` adds the
-    /// tables beyond the profile, and what was found in them.
+    /// `json FILE...`: write the content of each image or object as a line of JSON, with at most this many bytes, and with what is
+    /// beyond the profile of an image if that is asked for.
     Json {
-        all: bool,
+        beyond: Option<JsonOptions>,
         most: Option<u64>,
         files: Vec<String>,
     },
@@ -95,6 +104,8 @@ pub enum Job<P> {
     /// `rebase HEX IN OUT`: write the file of an image for another base.
     Rebase {
         base: u64,
+        /// Whether the new file has its CheckSum (`--check-sum`), in place of 0.
+        check_sum: bool,
         /// The path of the image's file.
         source: String,
         /// The path of the new file.

@@ -23,5 +23,5 @@ mod rebase_words;
 mod word_values;
 mod words;
 
-pub use job::{AtPlace, Colours, Job, MapFile, WordsError};
+pub use job::{AtPlace, Colours, Job, JsonOptions, MapFile, WordsError};
 pub use words::parse_words;

@@ -1,6 +1,6 @@
 //! The words of `petool rebase`.
 
-use crate::builders::{new_command, required_argument, with_argument};
+use crate::builders::{flag, new_command, required_argument, with_argument};
 use crate::word_values::{BadValue, address_of};
 use clap::{ArgMatches, Command};
 use std::alloc::{AllocError, Global};
@@ -19,9 +19,13 @@ const SOURCE: &str = "The image's file, or - for standard input";
 const TARGET: &str =
     "The file to write, which may not be IN, or - for standard output; only the complete file replaces one that is there";
 
+/// The help on the option `--check-sum`.
+const CHECK_SUM: &str = "Writes the new file's CheckSum into its headers, in place of 0";
+
 /// The subcommand `rebase`.
 pub(crate) fn rebase_command<'a>(alloc: Global) -> Result<Command<'a>, AllocError> {
     let command = Ok(new_command(alloc, "rebase", ABOUT));
+    let command = with_argument(command, flag(alloc, "check-sum", CHECK_SUM));
     let command = with_argument(command, required_argument(alloc, "HEX", BASE));
     let command = with_argument(command, required_argument(alloc, "IN", SOURCE));
     with_argument(command, required_argument(alloc, "OUT", TARGET))

@@ -82,6 +82,7 @@ fn rebase_job<P: Copy>(alloc: Global, found: &ArgMatches<'_>) -> Result<Job<P>, 
     match base_of(found) {
         Ok(base) => Ok(Job::Rebase {
             base,
+            check_sum: found.get_flag("check-sum"),
             source: file_of(alloc, found, "IN")?,
             target: file_of(alloc, found, "OUT")?,
         }),

@@ -96,12 +96,14 @@ head_none : (file : List ℕ) → first_standing (layout_tests 0 file) ≡ None 
 head_none file laid = (none-append (head_tests 0 file) (placing_tests 0 (head_of file) (length file)) laid).0
 
 -- and therefore inside the file
-pub own_fields : (file : List ℕ) → first_standing (layout_tests 0 file) ≡ None → check_sum_place (head_of file) + 4 ≤ length file
-own_fields file laid =
-    let head = head_none file laid in
+pub check_sum_held : (file : List ℕ) → first_standing (head_tests 0 file) ≡ None → check_sum_place (head_of file) + 4 ≤ length file
+check_sum_held file head =
     let own = own_inside file (headers_nest 0 file head) in
     let held = (headers_inside 0 file head).0 in
     omega arith
+
+pub own_fields : (file : List ℕ) → first_standing (layout_tests 0 file) ≡ None → check_sum_place (head_of file) + 4 ≤ length file
+own_fields file laid = check_sum_held file (head_none file laid)
 
 module _ (file : List ℕ) (base : ℕ) (n : IsSound file base) where
   head_is_none : first_standing (head_tests 0 file) ≡ None

@@ -45,7 +45,7 @@ put_in xs at w v o le is = let p = range_parts at w o is in written_in xs at w v
 pub put_beside : (xs : List ℕ) (at w v o : ℕ) → at + w ≤ length xs → (o < at) ⊎ (at + w ≤ o) → byte_of (put xs at w v) o ≡ byte_of xs o
 put_beside xs at w v o le out = written_out xs at w v o le out
 
-put_out : (xs : List ℕ) (at w v o : ℕ) → at + w ≤ length xs → is_in at w o ≡ false → byte_of (put xs at w v) o ≡ byte_of xs o
+pub put_out : (xs : List ℕ) (at w v o : ℕ) → at + w ≤ length xs → is_in at w o ≡ false → byte_of (put xs at w v) o ≡ byte_of xs o
 put_out xs at w v o le is = elim (cases_lt o at) [
   | inl low ↦ put_beside xs at w v o le (inl low)
   | inr from ↦ elim (cases_lt o (at + w)) [

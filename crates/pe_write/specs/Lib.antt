@@ -1,3 +1,4 @@
+pub use Rattle.pe_trust.specs.CheckSum
 pub use Rattle.pe_tables.specs.Fixups
 pub mod PlanFaults
 pub mod PlanFile
@@ -7,3 +8,4 @@ pub mod Rebase
 pub mod Rebased
 pub mod RebaseFaults
 pub mod Rewriting
+pub mod Summed

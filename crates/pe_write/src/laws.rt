@@ -3,19 +3,22 @@
 
 ghost use Rattle.std.specs.Prelude.{◌≡◌, ◌%◌, ◌<◌, ◌≤◌, ◌-◌, ℕ, List, None, Some, slice_get};
 ghost use Rattle.pe_view.specs.Faults.{first_standing};
-ghost use Rattle.pe_view.specs.Number.{byte_of};
+ghost use Rattle.pe_view.specs.Number.{byte_of, num};
 ghost use Rattle.pe_head.specs.declared.section.SectionHeader.{SectionHeader};
 ghost use Rattle.pe_head.specs.Head.{head_of};
+ghost use Rattle.pe_head.specs.HeaderFaults.{head_tests};
 ghost use Rattle.pe_layout.specs.Image.{image_of_file};
 ghost use Rattle.pe_layout.specs.Plain.{IsIn, plain};
 ghost use Rattle.pe_layout.specs.SectionFaults.{layout_tests};
 ghost use Rattle.pe_tables.specs.Fixups.{fixups_of};
 ghost use Rattle.pe_tables.specs.Relocated.{relocated};
+ghost use Rattle.pe_trust.specs.CheckSum.{check_sum_of};
+ghost use Rattle.pe_write.specs.Summed.{with_check_sum};
 ghost use Rattle.pe_write.specs.PlanFaults.{plan_tests};
 ghost use Rattle.pe_write.specs.PlanFits.{IsPlan};
 ghost use Rattle.pe_write.specs.PlanHeaders.{header_bytes, plan_file, plan_headers, plan_sections, planned};
 ghost use Rattle.pe_write.specs.declared.plan.PlanSection.{PlanSection};
-ghost use Rattle.pe_write.specs.Rebase.{IsFree, rebased, rebased_head};
+ghost use Rattle.pe_write.specs.Rebase.{IsFree, check_sum_place, rebased, rebased_head};
 ghost use Rattle.pe_write.specs.Rebased.{IsRebased};
 ghost use Rattle.pe_write.specs.RebaseFaults.{rebase_tests};
 
@@ -87,3 +90,11 @@ pub fn planned_by_places<A: Allocator>(plan: &Plan<'_, A>)
         → ((k : ℕ) (header : SectionHeader) → slice_get (plan_sections plan.now) k ≡ Some header → ¬ (IsIn r header))
         → planned plan.now r ≡ 0 }
 {}
+
+/// The CheckSum that is written into a file is the checksum of the new file.
+pub fn check_sum_is_right()
+    ensures { (file : List ℕ) → first_standing (head_tests 0 file) ≡ None → let place = check_sum_place (head_of file) in
+        num (byte_of (with_check_sum file)) place 4 ≡ check_sum_of (with_check_sum file) place }
+{
+    pe_trust::laws::own_field_does_not_count();
+}

@@ -21,9 +21,11 @@ mod plan_faults;
 mod plan_headers;
 mod raw_data;
 mod rebase;
+mod summed;
 mod write;
 
 pub use error::WriteError;
 pub use plan::{Plan, PlanSection};
 pub use rebase::rebase_file;
+pub use summed::{put_check_sum, rebase_file_summed};
 pub use write::write_image;

@@ -23,7 +23,7 @@ use pe_view::Fault;
 use std::alloc::Allocator;
 
 /// The offset of CheckSum in the optional header.
-const CHECK_SUM: usize = 64;
+pub(crate) const CHECK_SUM: usize = 64;
 
 /// Tests faults 44 to 46 of an image at a base, alone in its address space.
 fn check_base(layout: &Layout, base: u64) -> Result<(), Fault>

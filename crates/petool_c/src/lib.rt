@@ -12,6 +12,7 @@
 
 // from describe/records.txt: modules
 mod bound_import;
+mod certificate;
 mod debug;
 mod export;
 mod field;
@@ -22,18 +23,27 @@ mod headers;
 mod image;
 mod import;
 mod import_at;
+mod import_hash;
 mod lending;
 mod object;
 mod opened;
 mod opened_bytes;
 mod opened_tables;
+mod overlay;
 mod rebase;
+mod rich;
 mod set;
+mod share;
+mod signature;
+mod signer;
 mod space;
+mod sum;
 mod symbol;
 mod tables;
 #[cfg(test)]
 mod tests;
 mod tls;
+mod trust_finding;
+mod unbound;
 mod words;
 // end of describe/records.txt

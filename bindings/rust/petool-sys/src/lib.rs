@@ -33,6 +33,8 @@ pub const PETOOL_ARGUMENT: u32 = 5;
 pub const PETOOL_CLOSED: u32 = 6;
 /// The images of the set have more bytes than the caller allows; nothing was mapped.
 pub const PETOOL_LARGE: u32 = 7;
+/// Another handle has the space, so it is not moved.
+pub const PETOOL_SHARED: u32 = 8;
 
 /// A fault's place counts bytes of the file.
 pub const PETOOL_PLACE_FILE: u16 = 0;
@@ -84,6 +86,49 @@ pub const PETOOL_PDB_TWO: u32 = 1;
 pub const PETOOL_FUNCTION_AMD64: u32 = 0;
 /// An entry of the exception table is a function of ARM64 or ARMNT, without its end.
 pub const PETOOL_FUNCTION_ARM: u32 = 1;
+
+/// A digest is absent: none can be read.
+pub const PETOOL_DIGEST_NONE: u32 = 0;
+/// A digest is of SHA-1, with 20 bytes.
+pub const PETOOL_DIGEST_SHA1: u32 = 1;
+/// A digest is of SHA-256, with 32 bytes.
+pub const PETOOL_DIGEST_SHA256: u32 = 2;
+/// A digest is of SHA-384, with 48 bytes.
+pub const PETOOL_DIGEST_SHA384: u32 = 3;
+/// A digest is of SHA-512, with 64 bytes.
+pub const PETOOL_DIGEST_SHA512: u32 = 4;
+/// A digest is of an algorithm that is not computed here.
+pub const PETOOL_DIGEST_OTHER: u32 = 5;
+
+/// A signed digest is that of other bytes.
+pub const PETOOL_FIT_NO: u32 = 0;
+/// A signed digest is that of the file.
+pub const PETOOL_FIT_YES: u32 = 1;
+/// A signed digest is not compared: it is absent, not computed here, or the file has no bytes that a signature signs.
+pub const PETOOL_FIT_UNKNOWN: u32 = 2;
+
+/// An overlay begins with nothing: there is none.
+pub const PETOOL_OVERLAY_NONE: u32 = 0;
+/// An overlay begins with the certificate table, by directory 4.
+pub const PETOOL_OVERLAY_CERTIFICATES: u32 = 1;
+/// An overlay begins with the symbol table, by PointerToSymbolTable.
+pub const PETOOL_OVERLAY_SYMBOL_TABLE: u32 = 2;
+/// An overlay begins with the data of an NSIS installer.
+pub const PETOOL_OVERLAY_NSIS: u32 = 3;
+/// An overlay begins with a 7-Zip archive, or the configuration of an installer that unpacks one.
+pub const PETOOL_OVERLAY_SEVEN_ZIP: u32 = 4;
+/// An overlay begins with a ZIP archive.
+pub const PETOOL_OVERLAY_ZIP: u32 = 5;
+/// An overlay begins with a RAR archive.
+pub const PETOOL_OVERLAY_RAR: u32 = 6;
+/// An overlay begins with a cabinet.
+pub const PETOOL_OVERLAY_CABINET: u32 = 7;
+/// An overlay begins with a compound file, such as a Windows Installer package.
+pub const PETOOL_OVERLAY_COMPOUND_FILE: u32 = 8;
+/// An overlay begins with an executable file.
+pub const PETOOL_OVERLAY_EXECUTABLE: u32 = 9;
+/// An overlay begins with something else.
+pub const PETOOL_OVERLAY_OTHER: u32 = 10;
 
 /// The section number of a symbol that is defined in another object.
 pub const PETOOL_SECTION_UNDEFINED: u16 = 0;
@@ -487,6 +532,148 @@ pub struct BoundImport {
     pub number_of_module_forwarder_refs: u16,
 }
 
+/// CheckSum of an image's file.
+#[repr(C)]
+#[derive(Clone, Copy, Debug, Default, PartialEq, Eq, Hash)]
+pub struct CheckSums {
+    /// What the field holds; 0 if it was not set.
+    pub written: u32,
+    /// What it is to hold.
+    pub computed: u32,
+}
+
+/// An entry of the certificate table.
+#[repr(C)]
+#[derive(Clone, Copy, Debug)]
+pub struct Certificate {
+    /// The file offset of its header of 8 bytes.
+    pub offset: u64,
+    /// Its content, behind that header.
+    pub bytes: Text,
+    /// Its length, with the header.
+    pub length: u32,
+    /// The revision of its form, such as 0x200.
+    pub revision: u16,
+    /// Its type: 2 a signature (PKCS #7).
+    pub kind: u16,
+}
+
+impl Certificate {
+    /// Its value before a call sets it.
+    pub const NONE: Certificate = Certificate {
+        offset: 0,
+        bytes: Text::NONE,
+        length: 0,
+        revision: 0,
+        kind: 0,
+    };
+}
+
+/// A signature of an image's file, and the digest that it signs.
+#[repr(C)]
+#[derive(Clone, Copy, Debug)]
+pub struct Signature {
+    /// The file offset of its certificate.
+    pub offset: u64,
+    /// The signature, for petool_signers.
+    pub bytes: Text,
+    /// The digest that it signs; empty for `PETOOL_DIGEST_NONE`.
+    pub digest: Text,
+    /// A `PETOOL_DIGEST`: the algorithm of the digest.
+    pub algorithm: u32,
+    /// A `PETOOL_FIT`: whether the digest is that of the file.
+    pub fits: u32,
+}
+
+impl Signature {
+    /// Its value before a call sets it.
+    pub const NONE: Signature = Signature {
+        offset: 0,
+        bytes: Text::NONE,
+        digest: Text::NONE,
+        algorithm: 0,
+        fits: 0,
+    };
+}
+
+/// A digest.
+#[repr(C)]
+#[derive(Clone, Copy, Debug, PartialEq, Eq, Hash)]
+pub struct Digest {
+    /// Its bytes, with zeros after them.
+    pub bytes: [u8; 64],
+    /// How many bytes it has: 16 (an import hash), 20, 32, 48 or 64.
+    pub len: u32,
+}
+
+impl Digest {
+    /// Its value before a call sets it.
+    pub const NONE: Digest = Digest { bytes: [0; 64], len: 0 };
+}
+
+/// A certificate that a signature has, by its parts in DER.
+#[repr(C)]
+#[derive(Clone, Copy, Debug)]
+pub struct Signer {
+    /// The serial number, big-endian.
+    pub serial: Text,
+    /// The content of the issuer's name.
+    pub issuer: Text,
+    /// The content of the subject's name.
+    pub subject: Text,
+    /// The common name of the issuer; empty if it has none.
+    pub issuer_name: Text,
+    /// The common name of the subject; empty if it has none.
+    pub subject_name: Text,
+}
+
+impl Signer {
+    /// Its value before a call sets it.
+    pub const NONE: Signer = Signer {
+        serial: Text::NONE,
+        issuer: Text::NONE,
+        subject: Text::NONE,
+        issuer_name: Text::NONE,
+        subject_name: Text::NONE,
+    };
+}
+
+/// The Rich header, which says with which tools of Microsoft an image was made.
+#[repr(C)]
+#[derive(Clone, Copy, Debug, Default, PartialEq, Eq, Hash)]
+pub struct RichHeader {
+    /// The file offset of DanS, with which it begins.
+    pub offset: u64,
+    /// Its key, with which all of it is exclusive-or'ed.
+    pub key: u32,
+    /// What the key is to be: a sum of the bytes before it and of its pairs.
+    pub computed: u32,
+}
+
+/// How many of an image's objects one version of a tool made.
+#[repr(C)]
+#[derive(Clone, Copy, Debug, Default, PartialEq, Eq, Hash)]
+pub struct RichPair {
+    /// The number of the tool.
+    pub product: u16,
+    /// The number of its build.
+    pub build: u16,
+    /// How many objects it made.
+    pub count: u32,
+}
+
+/// What an image's file has behind the bytes that its headers name.
+#[repr(C)]
+#[derive(Clone, Copy, Debug, Default, PartialEq, Eq, Hash)]
+pub struct OverlayRange {
+    /// Where these bytes end.
+    pub offset: u64,
+    /// How many bytes the file has from there on; 0 if it has no overlay.
+    pub size: u64,
+    /// A `PETOOL_OVERLAY`: what the overlay begins with.
+    pub kind: u32,
+}
+
 /// An image that is kept open between calls. Set to [`Image::CLOSED`] before the first call, and never copied.
 #[repr(C)]
 #[derive(Debug)]
@@ -523,13 +710,43 @@ pub struct Binding {
     pub rva: u32,
 }
 
+/// An import that is bound to nothing, since its search comes to a module that is not in the set.
+#[repr(C)]
+#[derive(Clone, Copy, Debug)]
+pub struct UnboundImport {
+    /// The module that exports it.
+    pub module: Text,
+    /// The name; empty for an import by ordinal.
+    pub name: Text,
+    /// The ordinal of an import by ordinal; otherwise 0.
+    pub ordinal: u64,
+    /// The index of the entry whose image has the slot.
+    pub image: u32,
+    /// The RVA of the slot, which keeps its bytes from the file.
+    pub slot: u32,
+    /// Whether it is imported by ordinal.
+    pub by_ordinal: bool,
+}
+
+impl UnboundImport {
+    /// Its value before a call sets it.
+    pub const NONE: UnboundImport = UnboundImport {
+        module: Text::NONE,
+        name: Text::NONE,
+        ordinal: 0,
+        image: 0,
+        slot: 0,
+        by_ordinal: false,
+    };
+}
+
 /// Many images at their bases, kept between calls. Set to [`Space::CLOSED`] before the first call, and never copied.
 #[repr(C)]
 #[derive(Debug)]
 pub struct Space {
     /// Private to the library.
     pub state: *mut c_void,
-    /// Whether a set is mapped.
+    /// Whether a set is mapped or opened.
     pub is_open: bool,
 }
 
@@ -840,6 +1057,51 @@ extern "C" {
         fault: *mut Fault,
     ) -> u32;
 
+    pub fn petool_check_sum(file: *const u8, len: usize, sum: *mut CheckSums, fault: *mut Fault) -> u32;
+    pub fn petool_certificates(
+        file: *const u8,
+        len: usize,
+        rows: *mut Certificate,
+        room: usize,
+        count: *mut usize,
+        fault: *mut Fault,
+    ) -> u32;
+    pub fn petool_authenticode(
+        file: *const u8,
+        len: usize,
+        rows: *mut Signature,
+        room: usize,
+        count: *mut usize,
+        fault: *mut Fault,
+    ) -> u32;
+    pub fn petool_authenticode_digest(
+        file: *const u8,
+        len: usize,
+        algorithm: u32,
+        digest: *mut Digest,
+        fault: *mut Fault,
+    ) -> u32;
+    pub fn petool_signers(signature: *const u8, len: usize, rows: *mut Signer, room: usize, count: *mut usize) -> u32;
+    pub fn petool_rich(file: *const u8, len: usize, rich: *mut RichHeader, fault: *mut Fault) -> u32;
+    pub fn petool_rich_pairs(
+        file: *const u8,
+        len: usize,
+        rows: *mut RichPair,
+        room: usize,
+        count: *mut usize,
+        fault: *mut Fault,
+    ) -> u32;
+    pub fn petool_overlay(file: *const u8, len: usize, overlay: *mut OverlayRange, fault: *mut Fault) -> u32;
+    pub fn petool_trust_findings(
+        file: *const u8,
+        len: usize,
+        rows: *mut Fault,
+        room: usize,
+        count: *mut usize,
+        fault: *mut Fault,
+    ) -> u32;
+    pub fn petool_import_hash(file: *const u8, len: usize, hash: *mut Digest, fault: *mut Fault) -> u32;
+
     pub fn petool_image_open(image: *mut Image, file: *const u8, len: usize, fault: *mut Fault) -> u32;
     pub fn petool_image_share(image: *mut Image, other: *mut Image) -> u32;
     pub fn petool_image_read(image: *mut Image, rva: u32, buffer: *mut u8, count: usize) -> u32;
@@ -872,6 +1134,15 @@ extern "C" {
         cycle: *mut u32,
         fault: *mut Fault,
     ) -> u32;
+    pub fn petool_unbound(
+        set: *const Entry,
+        entries: usize,
+        rows: *mut UnboundImport,
+        room: usize,
+        count: *mut usize,
+        cycle: *mut u32,
+        fault: *mut Fault,
+    ) -> u32;
 
     pub fn petool_space_map(
         space: *mut Space,
@@ -890,6 +1161,15 @@ extern "C" {
         cycle: *mut u32,
         fault: *mut Fault,
     ) -> u32;
+    pub fn petool_space_open(
+        space: *mut Space,
+        set: *const Entry,
+        entries: usize,
+        known: bool,
+        cycle: *mut u32,
+        fault: *mut Fault,
+    ) -> u32;
+    pub fn petool_space_share(space: *mut Space, other: *mut Space) -> u32;
     pub fn petool_space_read(space: *mut Space, address: u64, buffer: *mut u8, len: usize, fault: *mut Fault) -> u32;
     pub fn petool_space_move(space: *mut Space, image: u32, base: u64, moved: *mut Moved, fault: *mut Fault) -> u32;
     pub fn petool_space_image(space: *mut Space, image: u32, base: *mut u64, size: *mut u32) -> u32;

@@ -69,6 +69,18 @@ fn the_records_of_tables_beyond_the_profile_are_laid_out_as_in_c() {
 }
 
 #[test]
+fn the_records_of_what_a_file_says_of_itself_are_laid_out_as_in_c() {
+    layout!(CheckSums, 8, 4, written 0, computed 4);
+    layout!(Certificate, 32, 8, offset 0, bytes 8, length 24, revision 28, kind 30);
+    layout!(Signature, 48, 8, offset 0, bytes 8, digest 24, algorithm 40, fits 44);
+    layout!(Digest, 68, 4, bytes 0, len 64);
+    layout!(Signer, 80, 8, serial 0, issuer 16, subject 32, issuer_name 48, subject_name 64);
+    layout!(RichHeader, 16, 8, offset 0, key 8, computed 12);
+    layout!(RichPair, 8, 4, product 0, build 2, count 4);
+    layout!(OverlayRange, 24, 8, offset 0, size 8, kind 16);
+}
+
+#[test]
 fn the_records_of_open_images_are_laid_out_as_in_c() {
     layout!(Image, 16, 8, state 0, is_open 8);
 }
@@ -77,6 +89,7 @@ fn the_records_of_open_images_are_laid_out_as_in_c() {
 fn the_records_of_sets_and_spaces_are_laid_out_as_in_c() {
     layout!(Entry, 40, 8, name 0, file 16, base 32);
     layout!(Binding, 16, 4, image 0, slot 4, exporter 8, rva 12);
+    layout!(UnboundImport, 56, 8, module 0, name 16, ordinal 32, image 40, slot 44, by_ordinal 48);
     layout!(Space, 16, 8, state 0, is_open 8);
     layout!(Moved, 8, 4, fields 0, slots 4);
 }

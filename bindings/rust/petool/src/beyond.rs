@@ -1,7 +1,7 @@
 //! The tables of an image beyond the profile: debug data, functions, TLS, structures of fields, bound imports, and findings.
 //! No rule of theirs refuses an image.
 
-use crate::rows::{read_rows, text_of};
+use crate::rows::{rows_of, text_of, RowsCall};
 use crate::{ClrHeader, DebugEntry, Fault, Function, Image, LoadConfiguration, OutOfMemory, TlsDirectory};
 use petool_sys as sys;
 
@@ -123,7 +123,8 @@ impl<'a> Image<'a> {
         Ok(rows.into_iter().map(of).collect())
     }
 
-    /// The rules of these tables that are broken, each with a number from 101 on.
+    /// The rules of these tables, of the certificate table and of the Rich header that are broken, by table in the order of their
+    /// numbers, which are from 101 on.
     pub fn findings(&self) -> Result<Vec<Fault>, OutOfMemory> {
         let rows = self.rows_by(sys::Fault::default(), sys::petool_findings)?;
         Ok(rows.into_iter().map(Fault::of).collect())
@@ -131,23 +132,6 @@ impl<'a> Image<'a> {
 
     /// All rows that a call has of the file, which has no fault that it could return.
     fn rows_by<Row: Copy>(&self, blank: Row, call: RowsCall<Row>) -> Result<Vec<Row>, OutOfMemory> {
-        let (file, mut fault) = (self.file(), sys::Fault::default());
-        read_rows(0, blank, |rows, count| {
-            // SAFETY: the file is a complete slice, which nobody writes to; the rows are initialized, and not shared
-            unsafe {
-                call(
-                    file.as_ptr(),
-                    file.len(),
-                    rows.as_mut_ptr(),
-                    rows.len(),
-                    count,
-                    &mut fault,
-                )
-            }
-        })
-        .map_err(|_| OutOfMemory)
+        rows_of(self.file(), blank, call)
     }
 }
-
-/// A call that reads a table of a file into rows.
-type RowsCall<Row> = unsafe extern "C" fn(*const u8, usize, *mut Row, usize, *mut usize, *mut sys::Fault) -> u32;

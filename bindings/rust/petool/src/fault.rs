@@ -316,3 +316,23 @@ impl From<OutOfMemory> for SetError {
         SetError::Memory
     }
 }
+
+/// Why an image of a space is not moved.
+#[derive(Clone, Copy, Debug, PartialEq, Eq, Hash)]
+pub enum MoveError {
+    /// A rule is broken: 55 or 44 to 47.
+    Fault(Fault),
+    /// Another space shares the images.
+    Shared,
+}
+
+impl fmt::Display for MoveError {
+    fn fmt(&self, out: &mut fmt::Formatter<'_>) -> fmt::Result {
+        match self {
+            MoveError::Fault(fault) => fault.fmt(out),
+            MoveError::Shared => out.write_str("another space shares the images"),
+        }
+    }
+}
+
+impl std::error::Error for MoveError {}

@@ -2,8 +2,10 @@
 //! libpetool.
 //!
 //! An [`Image`] is a file without a fault: it is read and checked once, and the contents of its tables are kept. An
-//! [`OpenImage`] is the same without a lock, for one thread. [`Headers`] reads headers and sections only. [`judge`] returns what the imports of a
-//! set of images are bound to, a [`Space`] maps a set and moves its images, and an [`Object`] is a COFF object.
+//! [`OpenImage`] is the same without a lock, for one thread. [`Headers`] reads headers and sections only. [`Trust`] has what a file says of
+//! itself: CheckSum, certificates, signatures, Rich header and overlay. [`judge`] returns what the imports of a set of images are bound
+//! to, and [`unbound`] which are bound to nothing; a [`Space`] maps or opens a set and moves its images, and an [`Object`] is a COFF
+//! object.
 //!
 //! ```
 //! use petool::{Error, Image};
@@ -37,9 +39,10 @@ mod rows;
 mod set;
 mod space;
 mod tables;
+mod trust;
 
 pub use beyond::{BoundImport, Pdb, PdbSignature, Tls};
-pub use fault::{name_of, Error, Fault, Named, OutOfMemory, Place, SetError};
+pub use fault::{name_of, Error, Fault, MoveError, Named, OutOfMemory, Place, SetError};
 pub use fields::{ClrField, ClrHeader, LoadConfiguration, LoadField};
 pub use headers::{Headers, Section};
 pub use image::Image;
@@ -48,10 +51,11 @@ pub use opened::OpenImage;
 // from describe/records.txt: shown records
 #[doc(inline)]
 pub use petool_sys::{
-    Binding, DebugEntry, Directory, Fixup, Function, Moved, ObjectHeader, ObjectRelocation as Relocation,
-    SectionHeader, TlsDirectory,
+    Binding, CheckSums as CheckSum, DebugEntry, Directory, Fixup, Function, Moved, ObjectHeader,
+    ObjectRelocation as Relocation, OverlayRange as Overlay, RichPair, SectionHeader, TlsDirectory,
 };
 // end of describe/records.txt
-pub use set::{judge, Entry, Policy};
+pub use set::{judge, unbound, Entry, Policy, UnboundImport};
 pub use space::{Placed, Space};
 pub use tables::{Import, Key, Tables, Target};
+pub use trust::{Certificate, Digest, DigestAlgorithm, RichHeader, Signature, Signer, Trust};

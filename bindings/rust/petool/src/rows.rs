@@ -40,6 +40,29 @@ pub(crate) fn read_rows<Row: Copy>(
     Ok(rows)
 }
 
+/// A call that reads a table of a file into rows.
+pub(crate) type RowsCall<Row> =
+    unsafe extern "C" fn(*const u8, usize, *mut Row, usize, *mut usize, *mut sys::Fault) -> u32;
+
+/// All rows that a call has of a file, which has no fault that the call could return.
+pub(crate) fn rows_of<Row: Copy>(file: &[u8], blank: Row, call: RowsCall<Row>) -> Result<Vec<Row>, OutOfMemory> {
+    let mut fault = sys::Fault::default();
+    read_rows(0, blank, |rows, count| {
+        // SAFETY: the file is a complete slice, which nobody writes to; the rows are initialized, and not shared
+        unsafe {
+            call(
+                file.as_ptr(),
+                file.len(),
+                rows.as_mut_ptr(),
+                rows.len(),
+                count,
+                &mut fault,
+            )
+        }
+    })
+    .map_err(|_| OutOfMemory)
+}
+
 #[cfg(test)]
 mod tests {
     use super::*;

@@ -2,13 +2,15 @@
 
 use crate::rows::read_rows;
 use crate::set::raw_entries;
-use crate::{Binding, Entry, Fault, Moved, OutOfMemory, Policy, SetError};
+use crate::{Binding, Entry, Fault, MoveError, Moved, OutOfMemory, Policy, SetError};
 use petool_sys as sys;
+use std::marker::PhantomData;
 
-/// A set of images, mapped: each at its base, with its fields relocated and its imports bound. It holds its own bytes,
-/// so the files may be dropped.
+/// A set of images, mapped or opened: each at its base, with its fields relocated and its imports bound. One that is
+/// mapped holds its own bytes, so the files may be dropped; one that is opened borrows its files.
 ///
 /// It may be sent to another thread, but only one call at a time may use it, even to read: it is `Send` and not `Sync`.
+/// Another thread gets its own by [`Space::shared`].
 ///
 /// ```compile_fail,E0277
 /// fn share<T: Sync>() {}
@@ -29,13 +31,14 @@ use petool_sys as sys;
 /// # Ok::<(), Box<dyn std::error::Error>>(())
 /// ```
 #[derive(Debug)]
-pub struct Space {
+pub struct Space<'a> {
     raw: sys::Space,
+    files: PhantomData<&'a [u8]>,
 }
 
-// SAFETY: one call at a time of any thread may use an open space, which owning it or `&mut` ensures; it has no other
-// state
-unsafe impl Send for Space {}
+// SAFETY: one call at a time of any thread may use an open space, which owning it or `&mut` ensures; what it shares with
+// others is only read, and counted by the library
+unsafe impl Send for Space<'_> {}
 
 /// Where an image of a space is.
 #[derive(Clone, Copy, Debug, PartialEq, Eq, Hash)]
@@ -50,13 +53,19 @@ pub struct Placed {
 const NO_WINDOW: u16 = 54;
 const NO_IMAGE: u16 = 55;
 
-impl Space {
+/// A space that is closed, before a call opens it.
+fn closed<'a>() -> Space<'a> {
+    Space {
+        raw: sys::Space::CLOSED,
+        files: PhantomData,
+    }
+}
+
+impl<'a> Space<'a> {
     /// Maps a set of at most 256 images.
-    pub fn map(set: &[Entry<'_>], policy: Policy) -> Result<Space, SetError> {
+    pub fn map(set: &[Entry<'_>], policy: Policy) -> Result<Space<'a>, SetError> {
         let raw_set = raw_entries(set)?;
-        let mut space = Space {
-            raw: sys::Space::CLOSED,
-        };
+        let mut space = closed();
         let (mut cycle, mut fault) = (0, sys::Fault::default());
         // SAFETY: the space is closed; the entries and their texts are complete slices, which nobody writes to
         let status = unsafe {
@@ -86,11 +95,9 @@ impl Space {
     /// assert!(Space::map_within(&set, Policy::Strict, 0x3000).is_ok());
     /// assert_eq!(Space::map_within(&set, Policy::Strict, 0x2fff).err(), Some(SetError::Large));
     /// ```
-    pub fn map_within(set: &[Entry<'_>], policy: Policy, most_bytes: u64) -> Result<Space, SetError> {
+    pub fn map_within(set: &[Entry<'_>], policy: Policy, most_bytes: u64) -> Result<Space<'a>, SetError> {
         let raw_set = raw_entries(set)?;
-        let mut space = Space {
-            raw: sys::Space::CLOSED,
-        };
+        let mut space = closed();
         let (mut cycle, mut fault) = (0, sys::Fault::default());
         // SAFETY: the space is closed; the entries and their texts are complete slices, which nobody writes to
         let status = unsafe {
@@ -107,6 +114,78 @@ impl Space {
         match status {
             sys::PETOOL_OK => Ok(space),
             _ => Err(SetError::of(status, fault, cycle)),
+        }
+    }
+
+    /// Opens a set over its files, which are borrowed as long as the space and each that shares it is open: it has the
+    /// bytes of [`Space::map`], or the same error, and no copy of the images.
+    ///
+    /// ```
+    /// use petool::{Entry, Policy, Space};
+    ///
+    /// let file: &[u8] = include_bytes!("../../../../crates/test_cases/data/v2.dll");
+    /// let mut space = Space::open(&[Entry { name: b"v2.dll", file, base: 0x2000_0000 }], Policy::Strict)?;
+    /// let mut field = [0; 4];
+    /// space.move_image(0, 0x5000_0000)?;
+    /// space.read(0x5000_1008, &mut field)?;
+    /// assert_eq!(u32::from_le_bytes(field), 0x5000_1008);
+    /// # Ok::<(), Box<dyn std::error::Error>>(())
+    /// ```
+    ///
+    /// ```compile_fail,E0505
+    /// use petool::{Entry, Policy, Space};
+    ///
+    /// let file = vec![0; 64];
+    /// let space = Space::open(&[Entry { name: b"a.dll", file: &file, base: 0 }], Policy::Strict);
+    /// drop(file);
+    /// drop(space);
+    /// ```
+    pub fn open(set: &[Entry<'a>], policy: Policy) -> Result<Space<'a>, SetError> {
+        let raw_set = raw_entries(set)?;
+        let mut space = closed();
+        let (mut cycle, mut fault) = (0, sys::Fault::default());
+        // SAFETY: the space is closed; the entries and their texts are complete slices, which nobody writes to, and the
+        // files are borrowed as long as the space is open
+        let status = unsafe {
+            sys::petool_space_open(
+                &mut space.raw,
+                raw_set.as_ptr(),
+                raw_set.len(),
+                policy.is_known(),
+                &mut cycle,
+                &mut fault,
+            )
+        };
+        match status {
+            sys::PETOOL_OK => Ok(space),
+            _ => Err(SetError::of(status, fault, cycle)),
+        }
+    }
+
+    /// The same space for another thread. As long as there are several of them, none is moved; the memory is freed when
+    /// the last is dropped.
+    ///
+    /// ```
+    /// use petool::{Entry, MoveError, Policy, Space};
+    ///
+    /// let file: &[u8] = include_bytes!("../../../../crates/test_cases/data/v2.dll");
+    /// let mut space = Space::open(&[Entry { name: b"v2.dll", file, base: 0x2000_0000 }], Policy::Strict)?;
+    /// let mut other = space.shared()?;
+    /// assert_eq!(space.move_image(0, 0x5000_0000), Err(MoveError::Shared));
+    /// let mut field = [0; 4];
+    /// std::thread::scope(|scope| scope.spawn(|| other.read(0x2000_1008, &mut field)).join()).unwrap()?;
+    /// assert_eq!(u32::from_le_bytes(field), 0x2000_1008);
+    /// drop(other);
+    /// assert!(space.move_image(0, 0x5000_0000).is_ok());
+    /// # Ok::<(), Box<dyn std::error::Error>>(())
+    /// ```
+    pub fn shared(&mut self) -> Result<Space<'a>, OutOfMemory> {
+        let mut other = closed();
+        // SAFETY: the space is open and the other one closed
+        let status = unsafe { sys::petool_space_share(&mut self.raw, &mut other.raw) };
+        match status {
+            sys::PETOOL_OK => Ok(other),
+            _ => Err(OutOfMemory),
         }
     }
 
@@ -129,8 +208,9 @@ impl Space {
     }
 
     /// Moves an image to another base: relocates its fields, and binds again the slots whose exports are in it. The
-    /// error is the first of faults 55 and 44 to 47, and then nothing is changed.
-    pub fn move_image(&mut self, image: u32, base: u64) -> Result<Moved, Fault> {
+    /// error is [`MoveError::Shared`] as long as there is another space that shares this one, and otherwise the first of
+    /// faults 55 and 44 to 47; then nothing is changed.
+    pub fn move_image(&mut self, image: u32, base: u64) -> Result<Moved, MoveError> {
         let mut moved = Moved::default();
         let mut fault = sys::Fault {
             number: NO_IMAGE,
@@ -142,7 +222,8 @@ impl Space {
         let status = unsafe { sys::petool_space_move(&mut self.raw, image, base, &mut moved, &mut fault) };
         match status {
             sys::PETOOL_OK => Ok(moved),
-            _ => Err(Fault::of(fault)),
+            sys::PETOOL_SHARED => Err(MoveError::Shared),
+            _ => Err(MoveError::Fault(Fault::of(fault))),
         }
     }
 
@@ -164,9 +245,9 @@ impl Space {
     }
 }
 
-impl Drop for Space {
+impl Drop for Space<'_> {
     fn drop(&mut self) {
-        // SAFETY: the space is closed or open, was never copied, and is not used again
+        // SAFETY: the space is closed or open, was never copied, and is not used again; its files are still borrowed
         unsafe { sys::petool_space_close(&mut self.raw) }
     }
 }

@@ -2,7 +2,7 @@
 //!
 //! The program is the one that the variable PETOOL_PROGRAM names; without it this part is left out, which is printed.
 
-use petool::{judge, Entry, Error, Fault, Headers, Image, Object, Policy, Space};
+use petool::{judge, Entry, Error, Fault, Headers, Image, Object, Policy, Space, Trust};
 use std::env;
 use std::fs;
 use std::path::{Path, PathBuf};
@@ -78,6 +78,7 @@ fn ask_image(image: &Image<'_>) {
     assert!(tables.imports().all(|import| import.slot < size) && tables.fixups().all(|fixup| fixup.field < size));
     assert!(image.sections().iter().all(|section| section.text().len() <= 8));
     ask_beyond(image);
+    assert_eq!(image.trust().file(), image.file());
     match image.rebased(0x2000_0000) {
         Ok(rebased) => assert_eq!(rebased.len(), image.file().len()),
         Err(error) => assert!(matches!(error, Error::Fault(_)), "{error:?}"),
@@ -94,6 +95,24 @@ fn ask_beyond(image: &Image<'_>) {
     image.load_configuration().unwrap();
     image.clr().unwrap();
     image.bound_imports().unwrap();
+}
+
+/// What a file says of itself is read of any file whose headers have no fault.
+fn ask_trust(trust: &Trust<'_>) {
+    let certificates = trust.certificates().unwrap();
+    let signatures = trust.signatures().unwrap();
+    assert!(signatures.len() <= certificates.len() && certificates.len() <= trust.file().len() / 8);
+    for signature in signatures {
+        assert!(signature.fits.is_none() || signature.algorithm.is_some());
+        assert!(signature
+            .signers()
+            .unwrap()
+            .iter()
+            .all(|it| it.subject.len() <= signature.bytes.len()));
+    }
+    assert!(trust.findings().unwrap().iter().all(|finding| finding.number > 220));
+    trust.rich().unwrap();
+    trust.check_sum();
 }
 
 fn ask_space(file: &[u8], judged: Option<Fault>) {
@@ -124,6 +143,9 @@ fn ask_space(file: &[u8], judged: Option<Fault>) {
 
 /// Makes every call on a file; returns its fault, if it has one.
 fn ask(file: &[u8]) -> Option<Fault> {
+    if let Ok(trust) = Trust::new(file) {
+        ask_trust(&trust);
+    }
     let judged = match Image::new(file) {
         Ok(image) => {
             ask_image(&image);

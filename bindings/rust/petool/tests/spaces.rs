@@ -1,7 +1,9 @@
 //! Sets and spaces. Of va.dll, vb.dll and vc.dll, at the bases below, one slot is bound: that of c.exe at RVA 0x1030,
 //! to ordinal 7 of b.dll, which is its RVA 0x1010, by way of a forwarder of a.dll.
 
-use petool::{judge, Binding, Entry, Fault, Moved, Place, Placed, Policy, SetError, Space};
+use petool::{
+    judge, unbound, Binding, Entry, Fault, Key, MoveError, Moved, Place, Placed, Policy, SetError, Space, UnboundImport,
+};
 
 const V1: &[u8] = include_bytes!("../../../../crates/test_cases/data/v1.dll");
 const V2: &[u8] = include_bytes!("../../../../crates/test_cases/data/v2.dll");
@@ -181,14 +183,14 @@ fn a_slot_follows_the_image_that_it_leads_to() {
         image: 1,
         place: Place::Address(0x1000_0000),
     };
-    assert_eq!(space.move_image(1, 0x1000_0000), Err(fault));
+    assert_eq!(space.move_image(1, 0x1000_0000), Err(MoveError::Fault(fault)));
     assert_eq!(
         space.move_image(3, 0x1000_0000),
-        Err(Fault {
+        Err(MoveError::Fault(Fault {
             number: 55,
             image: 3,
             place: Place::Item(3)
-        })
+        }))
     );
     assert_eq!(
         space.image(1),
@@ -231,5 +233,73 @@ fn a_space_goes_to_another_thread() {
             base: 0x3000_0000,
             size: 0x3000
         })
+    );
+}
+
+#[test]
+fn an_opened_space_is_that_of_its_set() {
+    let mut mapped = Space::map(&[A, B, C], Policy::Strict).unwrap();
+    let mut opened = Space::open(&[A, B, C], Policy::Strict).unwrap();
+    for base in [0x1000_0000, 0x3000_0000] {
+        let moved = mapped.move_image(1, base);
+        assert_eq!(opened.move_image(1, base), moved);
+        assert_eq!(opened.bindings(), mapped.bindings());
+        for image in 0..4 {
+            assert_eq!(opened.image(image), mapped.image(image));
+        }
+        let (mut of_mapped, mut of_opened) = ([0; 0x3000], [0; 0x3000]);
+        for image in 0..3 {
+            let placed = mapped.image(image).unwrap();
+            assert_eq!(placed.size, 0x3000);
+            mapped.read(placed.base, &mut of_mapped).unwrap();
+            opened.read(placed.base, &mut of_opened).unwrap();
+            assert_eq!(of_opened, of_mapped);
+        }
+    }
+    assert_eq!(
+        Space::open(&[A, A], Policy::Strict).unwrap_err(),
+        Space::map(&[A, A], Policy::Strict).unwrap_err()
+    );
+}
+
+#[test]
+fn a_space_is_not_moved_while_it_is_shared() {
+    for opened in [false, true] {
+        let mut space = if opened {
+            Space::open(&[A, B, C], Policy::Strict).unwrap()
+        } else {
+            Space::map(&[A, B, C], Policy::Strict).unwrap()
+        };
+        let (mut second, mut third) = (space.shared().unwrap(), space.shared().unwrap());
+        let mut slot = [0; 4];
+        for each in [&mut space, &mut second, &mut third] {
+            // whatever the image
+            assert_eq!(each.move_image(1, 0x3000_0000), Err(MoveError::Shared));
+            assert_eq!(each.move_image(9, 0x3000_0001), Err(MoveError::Shared));
+            each.read(0x40_1030, &mut slot).unwrap();
+            assert_eq!(slot, [0x10, 0x10, 0x00, 0x20]);
+        }
+        drop(space);
+        assert_eq!(second.move_image(1, 0x3000_0000), Err(MoveError::Shared));
+        drop(second);
+        assert_eq!(third.move_image(1, 0x3000_0000), Ok(Moved { fields: 0, slots: 1 }));
+        third.read(0x40_1030, &mut slot).unwrap();
+        assert_eq!(slot, [0x10, 0x10, 0x00, 0x30]);
+    }
+}
+
+#[test]
+fn imports_that_are_bound_to_nothing_are_told() {
+    assert_eq!(unbound(&[A, B, C]), Ok(vec![]));
+    let alone = UnboundImport {
+        image: 1,
+        slot: 0x1030,
+        module: b"A.DLL",
+        key: Key::Name(b"f"),
+    };
+    assert_eq!(unbound(&[B, C]), Ok(vec![alone]));
+    assert_eq!(
+        unbound(&[A, A]).unwrap_err(),
+        judge(&[A, A], Policy::Known).unwrap_err()
     );
 }

@@ -1,7 +1,9 @@
 //! Command lines, and their jobs.
 
 use crate::numbers::bytes_of;
-use pe_tool::{AtPlace, Colours, Job, MapFile, Policy, ShowOptions, WordsError, parse_words};
+use pe_tool::{
+    AtPlace, Colours, Job, JsonOptions, MapFile, Policy, ShowOptions, WordsError, parse_words,
+};
 use std::alloc::Global;
 use std::str;
 
@@ -72,9 +74,14 @@ fn print_show<R: Print>(
 }
 
 /// Prints whether `json` has the tables beyond the profile, the limit of its output, and its files.
-fn print_json<R: Print>(rt: &R, all: bool, most: Option<u64>, files: &[String]) -> Option<()> {
-    if all {
-        println!(rt; "all").ok()?;
+fn print_json<R: Print>(
+    rt: &R,
+    beyond: Option<JsonOptions>,
+    most: Option<u64>,
+    files: &[String],
+) -> Option<()> {
+    if let Some(JsonOptions { functions, digests }) = beyond {
+        println!(rt; "all functions {functions} digests {digests}").ok()?;
     }
     print_most(rt, most)?;
     print_files(rt, "json", files)
@@ -115,7 +122,11 @@ fn print_job<R: Print>(rt: &R, job: &Job) -> Option<()> {
             most,
             files,
         } => print_show(rt, *options, *colours, *most, files),
-        Job::Json { all, most, files } => print_json(rt, *all, *most, files),
+        Job::Json {
+            beyond,
+            most,
+            files,
+        } => print_json(rt, *beyond, *most, files),
         Job::Sum { files } => print_files(rt, "sum", files),
         Job::At { file, places } => print_at(rt, file, places),
         Job::Explain { number } => println!(rt; "explain {number:?}").ok(),
@@ -135,9 +146,13 @@ fn print_job<R: Print>(rt: &R, job: &Job) -> Option<()> {
         } => print_map_unbound(rt, *policy, *window, files),
         Job::Rebase {
             base,
+            check_sum,
             source,
             target,
-        } => println!(rt; "rebase {base:#x} {source} {target}").ok(),
+        } => {
+            let mark = if *check_sum { " summed" } else { "" };
+            println!(rt; "rebase{mark} {base:#x} {source} {target}").ok()
+        }
     }
 }
 

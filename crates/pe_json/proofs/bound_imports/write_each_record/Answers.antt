@@ -1,5 +1,5 @@
 -- One record more.
-use Rattle.std.proofs.Common.{List, ℕ, map, arith, true, subst, length, ap, ◌∙◌, sym}
+use Rattle.std.proofs.Common.{List, ℕ, map, arith, true, subst}
 use Rattle.std.proofs.lemmas.List.{length-map}
 use Rattle.pe_layout.specs.Layout.{image_of}
 use Rattle.pe_text.specs.TextWriter.{Adds}
@@ -16,22 +16,24 @@ loop-index-init g c = record { adds = rw items_none (adds_none c.requires) }
 pub loop-index-preserved : goal.loop-index-preserved
 loop-index-preserved g c =
     let records = bound_records (image_of c.args.layout.now) in
-    let rows = map bound_row records in
-    let size = length-map records bound_row in
+    let row = bound_row (image_of c.args.layout.now) c.args.start in
+    let rows = map row records in
+    let size = length-map records row in
     let len = rw c.of-records.ensures.bytes at c.len-index-end.ensures in
     let under = c.loop-index-test.true in
-    let got = mapped_at bound_row records c.loop-index.index c.unwrap-import.result _ (rw (c.unwrap-import.ensures, c.of-records.ensures.bytes) at c.get.ensures) in
+    let got = mapped_at row records c.loop-index.index c.unwrap-import.result _ (rw (c.unwrap-import.ensures, c.of-records.ensures.bytes) at c.get.ensures) in
     record { adds = rw (row_next rows c.loop-index.index _ (omega (arith, under, len, size)) got) (c.loop-index.invariant.adds then c.write_next_record.ensures) }
 
 pub returns : goal.returns
 returns g c =
     let records = bound_records (image_of c.args.layout.now) in
-    let rows = map bound_row records in
-    let size = length-map records bound_row in
+    let row = bound_row (image_of c.args.layout.now) c.args.start in
+    let rows = map row records in
+    let size = length-map records row in
     let len = rw c.of-records.ensures.bytes at c.len-index-end.ensures in
     let past = c.loop-index-test.false in
     subst (λ (xs : List (List ℕ)). Adds g.W.Sink.taken g.W.Sink.failures c.args.text.now c.loop-index.text (items_text true xs)) (rows_taken rows c.loop-index.index (omega (arith, past, len, size))) c.loop-index.invariant.adds
 
 pub returns-then-has_failed : goal.returns-then-has_failed
 returns-then-has_failed g c =
-    left-out _ _ _ _ _ c.loop-index.invariant.adds (c.has_failed.ensures.ends c.if-has_failed.true) (rows_rest (map bound_row (bound_records (image_of c.args.layout.now))) c.loop-index.index)
+    left-out _ _ _ _ _ c.loop-index.invariant.adds (c.has_failed.ensures.ends c.if-has_failed.true) (rows_rest (map (bound_row (image_of c.args.layout.now) c.args.start) (bound_records (image_of c.args.layout.now))) c.loop-index.index)

@@ -7,5 +7,5 @@ use Rattle.pe_json.proofs.bound_imports.write_each_record.Given as goal
 
 abbrev pub invariant-loop-index : goal.invariant-loop-index
 invariant-loop-index g l = record {
-  adds : Adds g.W.Sink.taken g.W.Sink.failures l.initial.text l.text (items_text true (take l.index (map bound_row (bound_records (image_of l.layout)))));
+  adds : Adds g.W.Sink.taken g.W.Sink.failures l.initial.text l.text (items_text true (take l.index (map (bound_row (image_of l.layout) l.start) (bound_records (image_of l.layout)))));
 }

@@ -1,13 +1,11 @@
 use Rattle.std.proofs.Common.{codes}
 use Rattle.json.specs.Print.{escape_byte}
-use Rattle.pe_text.proofs.Adding.{◌then◌}
-use Rattle.pe_json.specs.BoundRows.{bound_row}
 use Rattle.pe_json.specs.JsonText.{member, number}
-use Rattle.pe_json.specs.Listed.{more}
-use Rattle.pe_json.proofs.Objects.{ended, objects}
+use Rattle.pe_json.proofs.Objects.{also, objects}
 use Rattle.pe_json.proofs.bound_imports.write_record.Goals as goal
 
 pub returns : goal.returns
-unfolding bound_row more member escape_byte
+unfolding member escape_byte
 returns g c =
-    objects (number (codes "time_date_stamp") c.args.import.now.time_date_stamp) _ c.write_number.ensures (c.write_number-2.ensures then (ended c.write_number-3.ensures)) c.text.ensures
+    let name = rw c.module_at.ensures at c.write_module.ensures in
+    objects (number (codes "time_date_stamp") c.args.import.now.time_date_stamp) _ c.write_number.ensures (also _ _ c.write_numbers.ensures name) c.text.ensures

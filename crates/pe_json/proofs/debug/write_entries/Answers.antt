@@ -1,9 +1,7 @@
 -- One entry more.
-use Rattle.std.proofs.Common.{List, ℕ, map, arith, true, subst, length, ap, ◌∙◌, sym}
+use Rattle.std.proofs.Common.{List, ℕ, map, arith, true, subst}
 use Rattle.std.proofs.lemmas.List.{length-map}
 use Rattle.pe_layout.specs.Layout.{image_of}
-use Rattle.pe_records.specs.Debug.{debug_entry_at}
-use Rattle.pe_records.specs.Records.{records_in}
 use Rattle.pe_text.specs.TextWriter.{Adds}
 use Rattle.pe_text.proofs.Adding.{◌then◌}
 use Rattle.pe_json.specs.Listed.{items_text}

@@ -1,4 +1,4 @@
-use Rattle.std.proofs.Common.{◌≡◌, ◌∙◌, ℕ, true, false, sym, ap, arith, refl, Some}
+use Rattle.std.proofs.Common.{◌≡◌, ℕ, true, false, ap, arith, refl, Some}
 use Rattle.std.proofs.lemmas.Bool.{or_parts}
 use Rattle.std.proofs.lemmas.Grind.{common_steps}
 use Rattle.pe_layout.specs.Layout.{headers_of}

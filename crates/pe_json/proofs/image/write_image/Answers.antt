@@ -6,5 +6,5 @@ use Rattle.pe_json.proofs.image.write_image.Goals as goal
 
 pub returns : goal.returns
 returns g c =
-    whole_line (number (codes "schema") 1) (first_members c.args.name.now true) _ c.begin.ensures (also _ _ c.write_profile.ensures c.write_records.ensures)
+    whole_line (number (codes "schema") 1) (first_members c.args.name.now true) _ c.begin.ensures (also _ _ c.write_profile.ensures c.write_beyond.ensures)
     c.text.ensures c.text-2.ensures

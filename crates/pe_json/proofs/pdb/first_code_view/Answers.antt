@@ -1,9 +1,6 @@
-use Rattle.std.proofs.Common.{◌≡◌, ◌∙◌, ◌+◌, ◌==◌, ℕ, Bool, true, false, List, [], ◌∷◌, drop, get_or, Option, Some, None, sym, ap, arith, drop-cons, add-one, length}
-use Rattle.std.specs.Prelude.{find, cond, slice_get}
+use Rattle.std.proofs.Common.{◌∙◌}
 use Rattle.std.proofs.lemmas.Bool.{ne_eqb}
-use Rattle.std.proofs.lemmas.Grind.{common_steps}
 use Rattle.pe_layout.specs.Layout.{image_of}
-use Rattle.pe_records.specs.declared.debug.DebugEntry.{DebugEntry}
 use Rattle.pe_json.specs.DebugRows.{debug_entries}
 use Rattle.pe_json.specs.PdbRows.{is_code_view}
 use Rattle.pe_json.proofs.FirstItem.{found-here, not-here}

@@ -1,9 +1,9 @@
-use Rattle.std.proofs.Common.{codes, refl}
+use Rattle.std.proofs.Common.{codes}
 use Rattle.json.specs.Print.{escape_byte}
 use Rattle.pe_text.proofs.Adding.{◌then◌}
 use Rattle.pe_json.specs.JsonText.{member, object, number, hex_string}
 use Rattle.pe_json.specs.Listed.{more}
-use Rattle.pe_json.specs.PdbRows.{code_view_members, path_if}
+use Rattle.pe_json.specs.PdbRows.{code_view_members}
 use Rattle.pe_json.proofs.Objects.{adds_none, ended, object_after}
 use Rattle.pe_json.proofs.pdb.write_code_view.Goals as goal
 

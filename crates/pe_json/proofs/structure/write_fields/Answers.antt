@@ -1,8 +1,5 @@
-use Rattle.std.proofs.Common.{◌≡◌, ℕ, List, length, arith, subst}
-use Rattle.std.specs.Prelude.{flat_map}
-use Rattle.std.specs.List.{range_with_len}
+use Rattle.std.proofs.Common.{◌≡◌, length, arith}
 use Rattle.pe_records.specs.Structure.{address_width}
-use Rattle.pe_text.specs.TextWriter.{Adds}
 use Rattle.pe_view.specs.View.{bytes_of}
 use Rattle.pe_json.specs.Listed.{more}
 use Rattle.pe_json.specs.StructureRows.{fields_of, member_at}

@@ -1,5 +1,5 @@
 -- One callback more.
-use Rattle.std.proofs.Common.{List, ℕ, map, arith, true, subst, length}
+use Rattle.std.proofs.Common.{List, ℕ, map, arith, true, subst}
 use Rattle.std.proofs.lemmas.List.{length-map}
 use Rattle.pe_records.specs.CallbackView.{callback_table}
 use Rattle.pe_records.specs.Callbacks.{addresses}

@@ -1,4 +1,4 @@
-use Rattle.std.proofs.Common.{◌≡◌, ◌∙◌, sym, ap, codes, Option, None, Some}
+use Rattle.std.proofs.Common.{◌≡◌, ◌∙◌, sym, ap, codes, Some}
 use Rattle.std.specs.Prelude.{option_map}
 use Rattle.json.specs.Print.{escape_byte}
 use Rattle.pe_head.specs.declared.directory.Directory.{Directory}

@@ -13,6 +13,11 @@ returns g c =
         e.2.0,
         (
           refl,
+          record {
+            packed = refl;
+            bytes = s.1;
+            size = rw c.in-Some.is at c.in_ok-pointer.ensures.room;
+          },
           λ file size has. add_names c.args.parts c.read_strings.new.bytes c.in-Some.pointer file s.0 s.1 (s.2 file size has),
         ),
       ),

@@ -58,6 +58,12 @@ returns-clause-places g c =
     let placed = rw (c.in-Some-2.is, kept) at c.in_ok-sections.ensures.places in
     ap (λ (x : Headers). record x { sections = c.in-Some-2.sections; pointer_to_symbol_table = 0; number_of_symbols = 0 }) (same.1 ∙ sym same.0) ∙ ap (with_sections h) placed
 
+pub returns-clause-size : goal.returns-clause-size
+returns-clause-size g c =
+    let kept : vec_len c.truncate.new.self ≡ c.in-Some.headers.size_of_headers = search rules in
+    let long : length c.read_sections.new.bytes.items ≡ vec_len c.read_sections.new.bytes = search rules in
+    long ∙ rw (c.in-Some-2.is, kept) at c.in_ok-sections.ensures.end
+
 pub returns-then-not-branch-clause-left : goal.returns-then-not-branch-clause-left
 returns-then-not-branch-clause-left g c = inr (inl (early_within _ _ _ _ (omega (arith, c.if-len-lt-LEAST.false)) (c.in_ok-read_range.ensures.early c.if-not-branch.true)))
 

@@ -2,7 +2,7 @@ use Rattle.std.proofs.Common.{rules, ◌≡◌, ◌∙◌, ◌+◌, ◌≤◌, L
 use Rattle.std.proofs.lemmas.List.{length-append, take_all}
 use Rattle.pe_head.specs.declared.section.SectionHeader.{SectionHeader}
 use Rattle.pe_reach.specs.Parts.{Part, HasPart}
-use Rattle.pe_reach.proofs.PartBytes.{all_first, all_rest, front_on, section_more, packed_more, packed_all, early_on, none_is}
+use Rattle.pe_reach.proofs.PartBytes.{all_first, all_rest, front_on, section_more, packed_more, packed_all, end_more, end_all, early_on, none_is}
 use Rattle.pe_reach.proofs.parts_reading.read_sections.Goals as goal
 
 pub loop-section-preserved : goal.loop-section-preserved
@@ -26,6 +26,8 @@ loop-section-preserved g c =
       packed = rw c.push.ensures.items
           (packed_more c.args.headers.now c.args.len (vec_len c.loop-section.bytes) (vec_len c.read_section.new.bytes) c.args.headers.now.sections.items c.as_slice-section-items.result.now c.loop-section.sections.items _
           c.loop-section.section-index _ c.in-Some.pointer c.as_slice-section-items.ensures.value c.loop-section-test.true place.0 place.1 inv.packed);
+      ends = end_more c.args.headers.now c.args.len (vec_len c.loop-section.bytes) (vec_len c.read_section.new.bytes) c.args.headers.now.sections.items c.as_slice-section-items.result.now _
+          c.loop-section.section-index _ c.as_slice-section-items.ensures.value c.loop-section-test.true place.1 inv.ends;
       failures = e.2.0 ∙ inv.failures;
       placed = ap length c.push.ensures.items ∙ length-append {A = SectionHeader} c.loop-section.sections.items _ ∙ ap (λ n. n + 1) inv.placed;
       room = some.0;
@@ -46,6 +48,12 @@ returns-clause-places g c =
     let ss = c.args.headers.now.sections.items in
     let past : length ss ≤ c.loop-section.section-index = omega (arith, ap length c.as_slice-section-items.ensures.value, c.loop-section-test.false) in
     packed_all c.args.headers.now c.args.len (vec_len c.loop-section.bytes) ss c.loop-section.sections.items _ c.loop-section.section-index past c.loop-section.invariant.packed
+
+pub returns-clause-end : goal.returns-clause-end
+returns-clause-end g c =
+    let ss = c.args.headers.now.sections.items in
+    let past : length ss ≤ c.loop-section.section-index = omega (arith, ap length c.as_slice-section-items.ensures.value, c.loop-section-test.false) in
+    end_all c.args.headers.now c.args.len (vec_len c.loop-section.bytes) ss _ c.loop-section.section-index past c.loop-section.invariant.ends
 
 pub returns-in_default-clause-early : goal.returns-in_default-clause-early
 returns-in_default-clause-early g c =

@@ -1,7 +1,7 @@
 use Rattle.std.proofs.Common.{◌≡◌, ◌≤◌, ◌++◌, ℕ, List, length, take, drop, vec_len}
 use Rattle.pe_parts.specs.Packed.{AreHeld}
 use Rattle.pe_reach.specs.Parts.{Part, HasParts}
-use Rattle.pe_reach.specs.PartsRead.{packed_from}
+use Rattle.pe_reach.specs.PartsRead.{packed_from, packed_end}
 use Rattle.pe_reach.proofs.parts_reading.read_sections.Given as goal
 
 abbrev pub invariant-loop-section : goal.invariant-loop-section
@@ -11,6 +11,8 @@ invariant-loop-section g l = record {
   failures : g.R.PartSource.failures l.reader ≡ g.R.PartSource.failures l.initial.reader;
   packed : l.sections.items ++ packed_from l.headers l.len (vec_len l.bytes) (drop l.section-index l.headers.sections.items)
       ≡ packed_from l.headers l.len (vec_len l.initial.bytes) l.headers.sections.items;
+  ends : packed_end l.headers l.len (vec_len l.bytes) (drop l.section-index l.headers.sections.items)
+      ≡ packed_end l.headers l.len (vec_len l.initial.bytes) l.headers.sections.items;
   placed : length l.sections.items ≡ l.section-index;
   room : vec_len l.bytes ≤ l.len;
   grows : vec_len l.initial.bytes ≤ vec_len l.bytes;

@@ -30,4 +30,4 @@ pub returns-in-Ok-None-clause-left : goal.returns-in-Ok-None-clause-left
 returns-in-Ok-None-clause-left g c =
     let e = c.in_ok-parts.ensures.parts in
     let none = rw c.in-Ok-None.field-0-is at c.in-Ok-None.ensures.some in
-    inr (parts_undecided c.args.len _ _ e.0 c.in-Some.parts c.deref.result.now e.1 c.deref.ensures.value (rw c.in-Some.is at e.2.1) (rw c.in-Some.is at c.in_ok-parts.ensures.places) (sym none))
+    inr (parts_undecided c.args.len _ _ e.0 c.in-Some.parts c.deref.result.now e.1 c.deref.ensures.value (rw c.in-Some.is at e.2.1) (rw c.in-Some.is at c.in_ok-parts.ensures.places) (rw c.in-Some.is at c.in_ok-parts.ensures.size) (sym none))

@@ -1,4 +1,4 @@
-use Rattle.std.proofs.Common.{◌≡◌, ℕ, length, min, arith}
+use Rattle.std.proofs.Common.{◌≡◌, length, min, arith}
 use Rattle.pe_tables.specs.NameIndex.{export_view}
 use Rattle.pe_records_c.specs.ExportRows.{export_text, export_by_name}
 use Rattle.pe_records_c.proofs.Names.{beside_fills}

@@ -3,23 +3,20 @@ use Rattle.std.proofs.Common.{◌≡◌, List, length, inl, inr, subst, arith}
 use Rattle.std.proofs.lemmas.Bool.{cases_lt}
 use Rattle.std.proofs.lemmas.List.{length-map}
 use Rattle.std.specs.Prelude.{map}
-use Rattle.pe_set.specs.Bindings.{bindings_of}
-use Rattle.pe_set.specs.Set.{Entry, modules_of}
+use Rattle.pe_set.specs.Set.{Entry}
 use Rattle.pe_set.specs.SetErrors.{set_error, SetAnswers}
-use Rattle.pe_set.specs.SetView.{entries_of}
+use Rattle.pe_set.specs.SetView.{entries_of, IsAcceptedFrom}
 use Rattle.pe_set.specs.declared.entry.Policy.{Policy}
 use Rattle.pe_records_c.specs.SetRows.{entry_text, policy_of}
 use Rattle.pe_records_c.proofs.Counted.{answer_counts, none_put, memory_counts}
-use Rattle.pe_records_c.proofs.Judging.{bindings_answered}
 use Rattle.pe_records_c.proofs.set.judged.Goals as goal
 
 pub returns-clause-exact : goal.returns-clause-exact
 returns-clause-exact c =
     let set = entries_of c.put_entries.result.now in
-    let asked = bindings_answered (set_error c.policy_of.result set) set c.judge.result c.judge.ensures.exact in
-    let known = subst (λ (p : Policy). SetAnswers (set_error p set) (λ accepted. accepted.bindings.items ≡ bindings_of (modules_of set)) c.judge.result) c.policy_of.ensures asked in
-    let counts = subst (λ (es : List Entry). SetAnswers (set_error (policy_of c.args.known) es) (λ accepted. accepted.bindings.items ≡ bindings_of (modules_of es)) c.judge.result) c.put_entries.ensures known in
-    answer_counts (policy_of c.args.known) (λ es accepted. accepted.bindings.items ≡ bindings_of (modules_of es)) (c.errors_count_class_by_class.ensures.names (policy_of c.args.known)) (c.accepted_sets_have_no_fault.ensures.names (policy_of c.args.known))
+    let known = subst (λ (p : Policy). SetAnswers (set_error p set) (IsAcceptedFrom set) c.judge.result) c.policy_of.ensures c.judge.ensures.exact in
+    let counts = subst (λ (es : List Entry). SetAnswers (set_error (policy_of c.args.known) es) (IsAcceptedFrom es) c.judge.result) c.put_entries.ensures known in
+    answer_counts (policy_of c.args.known) (λ es accepted. IsAcceptedFrom es accepted) (c.errors_count_class_by_class.ensures.names (policy_of c.args.known)) (c.accepted_sets_have_no_fault.ensures.names (policy_of c.args.known))
     (map entry_text c.args.set.now) c.judge.result counts
 
 pub returns-clause-named : goal.returns-clause-named

@@ -6,8 +6,9 @@ use Rattle.pe_tables.specs.Imports.{Import}
 use Rattle.pe_set.specs.Bindings.{binding_of}
 use Rattle.pe_set.proofs.Asking.{next_item, gathered_some}
 use Rattle.pe_set.proofs.Defaults.{no_import}
-use Rattle.pe_tool.specs.UnboundImports.{unbound_import, unbound_view, HaveOwnSlots}
-use Rattle.pe_tool.proofs.Unbound.{moved, own_head, own_tail}
+use Rattle.pe_unbound.specs.Unbound.{unbound_import, HaveOwnSlots}
+use Rattle.pe_tool.specs.UnboundImports.{unbound_view}
+use Rattle.pe_unbound.proofs.Passed.{moved, own_head, own_tail}
 use Rattle.pe_tool.proofs.unbound_imports.gather.Goals as goal
 
 pub loop-import-init : goal.loop-import-init

@@ -5,7 +5,8 @@ use Rattle.pe_tables.specs.ImportView.{import_view}
 use Rattle.pe_set.specs.Bindings.{binding_of}
 use Rattle.pe_set.specs.Set.{Module}
 use Rattle.pe_set.specs.declared.binding.Binding.{Binding}
-use Rattle.pe_tool.specs.UnboundImports.{unbound_import, unbound_view, HaveOwnSlots}
+use Rattle.pe_unbound.specs.Unbound.{unbound_import, HaveOwnSlots}
+use Rattle.pe_tool.specs.UnboundImports.{unbound_view}
 use Rattle.pe_tool.proofs.unbound_imports.gather.Given as goal
 
 abbrev pub invariant-loop-import : goal.invariant-loop-import

@@ -10,8 +10,9 @@ use Rattle.pe_set.specs.Set.{Module}
 use Rattle.pe_set.specs.SetView.{module_view, modules_view}
 use Rattle.pe_set.proofs.Asking.{next_here, gathered}
 use Rattle.pe_set.proofs.Searching.{own_imports}
-use Rattle.pe_tool.specs.UnboundImports.{unbound_import, unbound_in, unbound_of, unbound_view, HaveOwnSlots}
-use Rattle.pe_tool.proofs.Unbound.{later_images}
+use Rattle.pe_unbound.specs.Unbound.{unbound_import, unbound_in, unbound_of, HaveOwnSlots}
+use Rattle.pe_tool.specs.UnboundImports.{unbound_view}
+use Rattle.pe_unbound.proofs.Passed.{later_images}
 use Rattle.pe_tool.proofs.unbound_imports.gather_all.Goals as goal
 
 pub loop-number-init : goal.loop-number-init

@@ -4,7 +4,8 @@ use Rattle.pe_set.specs.Bindings.{bindings_in}
 use Rattle.pe_set.specs.Numbered.{numbered}
 use Rattle.pe_set.specs.Set.{Module}
 use Rattle.pe_set.specs.SetView.{modules_view}
-use Rattle.pe_tool.specs.UnboundImports.{unbound_in, unbound_view, HaveOwnSlots}
+use Rattle.pe_unbound.specs.Unbound.{unbound_in, HaveOwnSlots}
+use Rattle.pe_tool.specs.UnboundImports.{unbound_view}
 use Rattle.pe_tool.proofs.unbound_imports.gather_all.Given as goal
 
 abbrev pub invariant-loop-number : goal.invariant-loop-number

@@ -5,8 +5,10 @@ use Rattle.pe_set.specs.Set.{Module, modules_of}
 use Rattle.pe_set.specs.SetView.{entries_of, modules_view}
 use Rattle.pe_set.proofs.Classes.{few_images, count_modules}
 use Rattle.pe_set.proofs.Distinct.{few_entries}
-use Rattle.pe_tool.specs.UnboundImports.{unbound_of, unbound_view, HaveOwnSlots}
-use Rattle.pe_tool.proofs.Unbound.{all_own_slots, if_err, exact_unless}
+use Rattle.pe_unbound.specs.Unbound.{unbound_of, HaveOwnSlots}
+use Rattle.pe_tool.specs.UnboundImports.{unbound_view}
+use Rattle.pe_unbound.proofs.Passed.{all_own_slots}
+use Rattle.pe_tool.proofs.Unbound.{if_err, exact_unless}
 use Rattle.pe_tool.proofs.unbound_imports.unbound_imports.Goals as goal
 
 pub gather_all-requires-clause-few : goal.gather_all-requires-clause-few

@@ -13,7 +13,7 @@ returns-in-Ok-clause-faults c = none_judged _ _ _ _ c.in-Ok.ensures.exact.0 (no_
 pub returns-in-Ok-clause-table : goal.returns-in-Ok-clause-table
 returns-in-Ok-clause-table c = λ _.
     let told = c.put_table.ensures in
-    table_told (λ r. r) (λ x. x) binding_row _ _ _ _ _ _ (map-id _ ∙ c.as_slice.ensures.value ∙ c.in-Ok.ensures.exact.1) told.rows told.count told.status
+    table_told (λ r. r) (λ x. x) binding_row _ _ _ _ _ _ (map-id _ ∙ c.as_slice.ensures.value ∙ c.in-Ok.ensures.exact.1.bindings) told.rows told.count told.status
 
 pub returns-in-Ok-clause-rows_kept : goal.returns-in-Ok-clause-rows_kept
 returns-in-Ok-clause-rows_kept c = λ refused. accepted_or_refused _ (no_refusal _ _ c.put_table.ensures.status) refused

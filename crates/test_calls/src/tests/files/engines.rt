@@ -73,7 +73,7 @@ pub(super) fn run_over<A: Allocator + Copy>(
             &mut reader,
             &mut writer,
         ),
-        Engine::Json => json(memory, NAME, false, &mut reader, &mut writer),
+        Engine::Json => json(memory, NAME, None, &mut reader, &mut writer),
         Engine::At => at(memory, PLACE, &mut reader, &mut writer),
     };
     Ok((answer, writer))

@@ -32,7 +32,7 @@ closed_spec 𝓤 𝓛 𝓜 𝓡 wired =
     let hs : Stays ended.signature.params ended.kept = (stay_dropped (plain (λ _. Alloc)) yes, tt) in
     proved_at 𝓛 ended hs c 𝓜 𝓡 (Goes-dropped 𝓛 0 (plain (λ _. Alloc)) yes (λ κs x f. refl), tt) key fn (code.unfolded 𝓤 𝓛.H 𝓜 𝓡 wired) (λ z are.
     let a = z.0.3.0 in let Post : Val → SProp 𝓤 = (walk_of 𝓛 ended hs c).post z in let Run : List Val → SProp 𝓤 = λ ws. WpFn 𝓤 𝓛.H 𝓣.C 𝓣.Λ fn ws Post in
-    let made : Handle.Denot = record { state = null_ptr; is_open = false; alloc = a; space = None } in
+    let made : Handle.Denot = record { state = null_ptr; is_open = false; alloc = a; owner = None } in
     qed 𝓛 ((‵ ftrue ⊛ ‵ (owns (types_at ended.signature.params z.0.0) z.0.3 z.0.4)) ∷ raw ((c z.0.0 z.0.3).requires z.1) ∷ []) ∵
     split ! $ move ! (1 ∷ []) $ fsplit ! $ one_value Alloc alloc_laws ! a z.0.4.0 (λ h eh fits.
     regoal ! (λ (us : List Val). prop (Run (us ++ []))) eh refl $
@@ -41,5 +41,5 @@ closed_spec 𝓤 𝓛 𝓜 𝓡 wired =
     returns ! (look_at ! 0 refl) $ free_all ! refl $
     nothing ! $ move ! (1 ∷ 0 ∷ []) $ handle_in ! made h $
     -- [the handle; nothing; nothing; the requires]
-    use0 𝓛 (raw (fact 𝓤 (made.is_open ≡ false))) (fact_i 𝓤 _ (emp 𝓤) refl) $ use0 𝓛 (raw (fact 𝓤 (made.space ≡ None))) (fact_i 𝓤 _ (emp 𝓤) refl) $ join ! $
+    use0 𝓛 (raw (fact 𝓤 (made.is_open ≡ false))) (fact_i 𝓤 _ (emp 𝓤) refl) $ use0 𝓛 (raw (fact 𝓤 (made.owner ≡ None))) (fact_i 𝓤 _ (emp 𝓤) refl) $ join ! $
     nothing ! $ nothing ! $ fjoin ! $ keep ! (3 ∷ 0 ∷ 2 ∷ 1 ∷ []) $ by ! (leaves 𝓛 ended hs c z (handle_word null_ptr false h) made (tt, tt) (tt, tt)))))

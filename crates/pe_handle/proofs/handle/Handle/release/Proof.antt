@@ -47,7 +47,7 @@ release_spec 𝓤 𝓛 𝓜 𝓡 wired =
     sets ! (of_opd ! (get_in ! (fld ! refl (stop !)) (sub ! 2 refl (whole !)))) refl fits $
     sets ! (of_opd ! (get ! refl)) refl (tt, tt) $
     first ! $ branches ! (get ! refl)
-    (λ is_open. move ! (1 ∷ []) $ open_holds ! d.alloc d.is_open d.state d.space is_open (λ x some opened.
+    (λ is_open. move ! (1 ∷ []) $ open_holds ! d.alloc d.is_open d.state d.owner is_open (λ x some opened.
     let whole_again : Parts.Denot = record { address = d.state; alloc = d.alloc; value = x } in let v = stored d.state h in let made = stored_fits Alloc alloc_laws d.state h fits in
     let answer : Val = live 1 (vcons v vnil) in let good : T (has_ty (layout Out) answer) × WT answer = (and_tt _ made.0, (record { fits = lit< tt }, (made.1, tt))) in
     move ! (1 ∷ 0 ∷ []) $ pair_in Alloc alloc_laws ! d.state d.alloc h $ fjoin ! $ use1 𝓛 (‵ (Parts.own_val whole_again (v ∷ []))) (id⊢ 𝓤 _) $
@@ -57,12 +57,12 @@ release_spec 𝓤 𝓛 𝓜 𝓡 wired =
     exec ! 𝓣.C 𝓣.Λ Ev (after 5 fn.body) (at_ret Ev Post) $ sets ! (of_opd ! (get ! refl)) refl good $
     returns ! (look_at ! 0 refl) $ free_all ! refl $ use1 𝓛 (‵ (Out.own_val (Some whole_again) (answer ∷ []))) (Some-of 𝓛 Parts whole_again v) $
     -- [the result; nothing; nothing; the requires]
-    use0 𝓛 (raw (fact 𝓤 (true ≡ d.is_open))) (fact_i 𝓤 _ (emp 𝓤) (sym opened)) $ use0 𝓛 (raw (fact 𝓤 (Some x ≡ d.space))) (fact_i 𝓤 _ (emp 𝓤) (sym some)) $ join ! $
+    use0 𝓛 (raw (fact 𝓤 (true ≡ d.is_open))) (fact_i 𝓤 _ (emp 𝓤) (sym opened)) $ use0 𝓛 (raw (fact 𝓤 (Some x ≡ d.owner))) (fact_i 𝓤 _ (emp 𝓤) (sym some)) $ join ! $
     nothing ! $ nothing ! $ fjoin ! $ keep ! (3 ∷ 0 ∷ 2 ∷ 1 ∷ []) $ by ! (leaves 𝓛 ended hs c z answer (Some whole_again) (tt, tt) (tt, tt))))
-    (λ is_closed. move ! (1 ∷ []) $ closed_holds ! d.alloc d.is_open d.state d.space is_closed (λ none shut. let answer : Val = live 0 vnil in let good : T (has_ty (layout Out) answer) × WT answer = (tt, (record { fits = lit< tt }, tt)) in
+    (λ is_closed. move ! (1 ∷ []) $ closed_holds ! d.alloc d.is_open d.state d.owner is_closed (λ none shut. let answer : Val = live 0 vnil in let good : T (has_ty (layout Out) answer) × WT answer = (tt, (record { fits = lit< tt }, tt)) in
     sets_last ! (agg ! (and_then ! (lit ! tt) (no_more !))) refl good $
     exec ! 𝓣.C 𝓣.Λ Ev (after 5 fn.body) (at_ret Ev Post) $ sets ! (of_opd ! (get ! refl)) refl good $
     returns ! (look_at ! 0 refl) $ free_all ! refl $ use0 𝓛 (‵ (Out.own_val None (answer ∷ []))) (none_of 𝓛 Parts) $
     -- [the result; the allocator; nothing; nothing; the requires]
-    use0 𝓛 (raw (fact 𝓤 (false ≡ d.is_open))) (fact_i 𝓤 _ (emp 𝓤) (sym shut)) $ use0 𝓛 (raw (fact 𝓤 (None ≡ d.space))) (fact_i 𝓤 _ (emp 𝓤) (sym none)) $ join ! $
+    use0 𝓛 (raw (fact 𝓤 (false ≡ d.is_open))) (fact_i 𝓤 _ (emp 𝓤) (sym shut)) $ use0 𝓛 (raw (fact 𝓤 (None ≡ d.owner))) (fact_i 𝓤 _ (emp 𝓤) (sym none)) $ join ! $
     nothing ! $ nothing ! $ fjoin ! $ keep ! (4 ∷ 0 ∷ 2 ∷ 1 ∷ []) $ by ! (leaves 𝓛 ended hs c z answer None (tt, tt) (tt, tt)))))))

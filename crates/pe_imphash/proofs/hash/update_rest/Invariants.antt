@@ -1,0 +1,10 @@
+use Rattle.std.proofs.Common.{◌++◌, List, ℕ, map, take}
+use Rattle.std.specs.List.{flat_map}
+use Rattle.md5.specs.Md5.{Holds}
+use Rattle.pe_tables.specs.ImportView.{import_view}
+use Rattle.pe_imphash.specs.ImportText.{further_text}
+use Rattle.pe_imphash.proofs.hash.update_rest.Given as goal
+
+-- the imports so far are taken in
+abbrev pub invariant-loop-import : goal.invariant-loop-import
+invariant-loop-import l = (text : List ℕ) → Holds l.fn.hasher text → Holds l.hasher (text ++ flat_map further_text (map import_view (take l.import-index l.imports)))

@@ -1,0 +1,6 @@
+use Rattle.pe_imphash.specs.Oleaut32.{oleaut32_names_4}
+use Rattle.pe_imphash.proofs.oleaut32.oleaut32_name_4.Goals as goal
+
+pub returns : goal.returns
+unfolding oleaut32_names_4
+returns c = c.name_among.ensures

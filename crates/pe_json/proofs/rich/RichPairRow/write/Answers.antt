@@ -1,0 +1,11 @@
+use Rattle.std.proofs.Common.{codes}
+use Rattle.json.specs.Print.{escape_byte}
+use Rattle.pe_text.proofs.Adding.{◌then◌}
+use Rattle.pe_json.specs.JsonText.{member, number}
+use Rattle.pe_json.specs.Listed.{more}
+use Rattle.pe_json.proofs.Objects.{ended, objects}
+use Rattle.pe_json.proofs.rich.RichPairRow.write.Goals as goal
+
+pub returns : goal.returns
+unfolding more member escape_byte
+returns g c = objects (number (codes "product") c.args.self.now.product) _ c.write_number.ensures (c.write_number-2.ensures then (ended c.write_number-3.ensures)) c.text.ensures

@@ -1,7 +1,0 @@
-use Rattle.std.proofs.Common.{◌≡◌, drop}
-use Rattle.std.specs.Prelude.{max}
-use Rattle.pe_show.specs.Places.{sections_end}
-use Rattle.pe_show.proofs.file_rows.sections_end.Given as goal
-
-abbrev pub invariant-loop-section : goal.invariant-loop-section
-invariant-loop-section l = max l.end (sections_end (drop l.section-index l.sections)) ≡ max l.least (sections_end l.sections)

@@ -1,0 +1,8 @@
+mod FewRows
+mod FilledRows
+mod FindingParts
+mod PresentFaults
+mod RichPairs
+mod Rows
+mod Signed
+mod SmallFiles

@@ -1,0 +1,56 @@
+-- The three parts, one after the other.
+use Rattle.std.proofs.Common.{◌≡◌, ◌∙◌, ◌+◌, ◌<◌, ◌^◌, ℕ, false, true, List, [], ◌++◌, length, refl, sym, ap, rules, arith}
+use Rattle.std.proofs.lemmas.List.{length-append, map-id}
+use Rattle.pe_view.specs.View.{bytes_of}
+use Rattle.pe_view.specs.declared.fault.Fault.{Fault}
+use Rattle.pe_records_c.specs.Faults.{fault_record}
+use Rattle.pe_records_c.specs.Rows.{filled}
+use Rattle.pe_trust_c.specs.AllFindings.{is_of_part, part_of}
+use Rattle.pe_trust_c.specs.TrustFindings.{present, trust_findings_of}
+use Rattle.pe_trust_c.proofs.FewRows.{few_filtered}
+use Rattle.pe_trust_c.proofs.FilledRows.{filled_none}
+use Rattle.pe_trust_c.proofs.PresentFaults.{present_few}
+use Rattle.pe_trust_c.proofs.all_findings.tell_all_findings.Goals as goal
+
+pub put_findings-between-requires : goal.put_findings-between-requires
+put_findings-between-requires c =
+    let few = few_filtered (is_of_part false) c.args.found.now in
+    let early = c.put_part-early.ensures.count in
+    let short : length c.args.found.now < 2 ^ 62 = search rules in
+    omega (arith, few, early, short)
+
+pub put_part-requires : goal.put_part-requires
+put_part-requires c =
+    let few = few_filtered (is_of_part false) c.args.found.now in
+    let early = c.put_part-early.ensures.count in
+    let own = present_few c.findings_in.result in
+    let five : length c.findings_in.result ≡ 5 = search rules in
+    let between = c.put_findings-between.ensures.count in
+    let short : length c.args.found.now < 2 ^ 62 = search rules in
+    omega (arith, few, early, own, five, between, short)
+
+pub returns : goal.returns
+returns c =
+    let found = c.args.found.now in
+    let before = part_of false found in
+    let own = trust_findings_of (bytes_of c.args.file) c.args.headers.now in
+    let own_is : present c.findings_in.result ≡ own = ap present c.findings_in.ensures in
+    let old = c.args.rows.now in
+    let early = c.put_part-early.ensures in
+    let between = c.put_findings-between.ensures in
+    let late = c.put_part.ensures in
+    let start = early.count in
+    let early_count : c.put_part-early.result ≡ length before = omega (arith, start) in
+    let first : c.put_part-early.new.rows ≡ filled fault_record before old = early.rows [] old refl (sym (filled_none fault_record old)) in
+    let second : c.put_findings-between.new.rows ≡ filled fault_record (before ++ own) old =
+    between.rows before old (sym early_count) first ∙ ap (λ (faults : List Fault). filled fault_record (before ++ faults) old) own_is in
+    let two : length (before ++ own) ≡ c.put_findings-between.result =
+    length-append before own ∙ ap (λ (n : ℕ). length before + n) (ap length (sym own_is)) ∙ ap (λ (n : ℕ). n + length (present c.findings_in.result)) (sym early_count) ∙ sym between.count in
+    let third : c.put_part.new.rows ≡ filled fault_record ((before ++ own) ++ part_of true found) old = late.rows (before ++ own) old two second in
+    let counted : c.put_part.result ≡ length ((before ++ own) ++ part_of true found) =
+    late.count ∙ ap (λ (n : ℕ). n + length (part_of true found)) (sym two) ∙ sym (length-append (before ++ own) (part_of true found)) in
+    record {
+      rows = map-id c.put_part.new.rows ∙ third ∙ ap (filled fault_record ((before ++ own) ++ part_of true found)) (sym (map-id old));
+      count_is = counted;
+      status_is = search (rules, counted);
+    }

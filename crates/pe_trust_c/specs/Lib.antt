@@ -1,0 +1,9 @@
+pub mod AllFindings
+pub mod CertificateRows
+pub mod DigestRecords
+pub mod FileRecords
+pub mod ImportHash
+pub mod RichRows
+pub mod SignatureRows
+pub mod SignerRows
+pub mod TrustFindings

@@ -1,0 +1,2 @@
+pub mod Passed
+mod UnboundRows

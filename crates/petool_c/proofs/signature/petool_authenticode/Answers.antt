@@ -1,0 +1,20 @@
+-- What is told by the headers holds for the file.
+use Rattle.std.proofs.Common.{ℕ, List, subst}
+use Rattle.pe_view.specs.declared.refusal.Refusal.TheVariants as refusals
+use Rattle.pe_head.specs.declared.headers.Headers.{Headers}
+use Rattle.pe_records_c.specs.Rows.{TellsTable}
+use Rattle.pe_records_c.proofs.Telling.{table_accepted, table_refused}
+use Rattle.pe_trust_c.specs.SignatureRows.{signature_row, signature_text, signatures}
+use Rattle.petool_c.proofs.signature.petool_authenticode.Goals as goal
+
+pub returns-in-Ok : goal.returns-in-Ok
+returns-in-Ok c =
+    let held = c.in-Ok.ensures in
+    let told = c.tell_signatures in
+    let of_file = subst (λ (bytes : List ℕ). TellsTable signature_text (signature_row bytes c.in-Ok.headers) (signatures bytes c.in-Ok.headers) c.args.rows.now told.new.rows told.new.count told.result) c.new.ensures told.ensures in
+    table_accepted _ _ signature_text _ _ _ _ _ _ _ _ held.0
+    (subst (λ (h : Headers). TellsTable signature_text (signature_row c.args.file.now h) (signatures c.args.file.now h) c.args.rows.now told.new.rows told.new.count told.result) held.1 of_file)
+
+pub returns-in-Err : goal.returns-in-Err
+returns-in-Err c =
+    table_refused _ _ _ _ _ _ _ _ _ _ (refusals.Fault c.in-Err.first) c.in-Err.ensures (λ e. absurd cc e) (c.refuse.ensures.status, c.refuse.ensures.told)
