@@ -74,7 +74,7 @@ VERSIONS = [
     ("man/petool.h.3", "libpetool 2.0", "libpetool 2.1", "man/petool.h.3: the version is 2.1"),
 ]
 PORTED = [
-    (PROVED, "itoa, thiserror, clap, sha1 and sha2", "itoa, clap, sha1 and sha2", f"{PROVED}: thiserror is not among the ported crates"),
+    (PROVED, "itoa, thiserror, clap, md5, sha1 and sha2", "itoa, clap, md5, sha1 and sha2", f"{PROVED}: thiserror is not among the ported crates"),
     (README, "itoa, thiserror, clap", "itoa, serde, thiserror, clap", f"{README}: serde is no ported crate"),
     ("crates.txt", "pe_words: pe_view pe_text clap", "pe_words: pe_view pe_text clap bumpalo", f"{PROVED}: bumpalo is not among the ported crates"),
     (PROVED, "bumpalo (of `test_calls`)", "bumpalo (of `test_images`)", f"{PROVED}: bumpalo is not named by test_images"),
@@ -83,7 +83,7 @@ WORDS = [
     (GUIDE, "petool show [--exports] ", "petool show ", f"{GUIDE}: petool show has --exports, which is not named"),
     (GUIDE, "petool json [--all] ", "petool json ", f"{GUIDE}: petool json has --all, which is not named"),
     (GUIDE, "[--count N]", "[--length N]", f"{GUIDE}: petool map has no --length N"),
-    (GUIDE, "`petool rebase HEX IN OUT`", "`petool rebase HEX OUT IN`", f"{GUIDE}: petool rebase takes HEX IN OUT"),
+    (GUIDE, "`petool rebase [--check-sum] HEX IN OUT`", "`petool rebase HEX OUT IN`", f"{GUIDE}: petool rebase takes HEX IN OUT"),
     (GUIDE, "`petool check FILE...`", "`petool judge FILE...`", f"{GUIDE}: there is no command judge"),
     (GUIDE, ", `petool --version` |", " |", f"{GUIDE}: petool has --version, which is not named"),
     (README, "`petool explain [N]`", "`petool show`", f"{README}: petool explain is not named"),
