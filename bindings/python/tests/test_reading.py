@@ -1,7 +1,7 @@
 """How much of a file the program reads: what comes after the end of the bytes that the headers name changes nothing but the size
-on a page, and is not read if the file's size is known, except for the string table of an image whose sections have long names. A
-file that comes by a pipe is read whole, so the two ways are compared. A file that another process changes meanwhile gives what one
-of its states gives."""
+on a page, and is not read if the file's size is known, except for the string table of an image whose sections have long names, and
+by `json --all`, which tells what the whole file decides. A file that comes by a pipe is read whole, so the two ways are compared.
+A file that another process changes meanwhile gives what one of its states gives."""
 
 import contextlib
 import itertools
@@ -38,11 +38,14 @@ OVERLAY = re.compile(rb"  Overlay .*\n")
 FIRST = 4096
 
 
-#: The commands that read no more than they need.
+#: The commands that read no more than they need, and `json --all`, which needs the whole file.
 COMMANDS = ("check", "dump", "map", "show", "json", "json with all", "at")
 
 #: Those whose output does not have the file's size.
-SIZELESS = ("check", "dump", "map", "json", "json with all", "at")
+SIZELESS = ("check", "dump", "map", "json", "at")
+
+#: Those whose output has it, or what the whole file decides.
+SIZED = ("show", "json with all")
 
 #: The options of `show` for which no more is read than without them: all but `--trust`.
 ROWS = ("--exports", "--imports", "--relocations", "--symbols", "--debug", "--functions", "--tls", "--load")
@@ -105,7 +108,8 @@ class Reading(unittest.TestCase):
                 self.path.write_bytes(image + tail)
                 with self.subTest(size=len(image), tail=len(tail)):
                     self.assertEqual({command: self.by_path(command) for command in texts}, texts)
-                    self.assertEqual(self.by_path("show"), self.by_pipe("show"))
+                    for command in SIZED:
+                        self.assertEqual(self.by_path(command), self.by_pipe(command), command)
 
     def test_files_that_end_early_are_refused_alike(self):
         for image in (LIBRARY, LATE):

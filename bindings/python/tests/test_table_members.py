@@ -239,7 +239,7 @@ class TableMembers(unittest.TestCase):
         self.assertNotIn("authenticode_sha256_hex", self.told(trust.image(trust.entry(b""), size=9)))
 
     def test_overlay(self):
-        self.assertEqual(self.told(trust.image(after=b"12345"))["overlay"], {"offset": 0xE0, "size": 5})
+        self.assertEqual(self.told(trust.image(after=b"12345"))["overlay"], {"offset": 0xE0, "size": 5, "begins_with": "other data"})
         self.assertNotIn("overlay", self.told(trust.image()))
 
     def test_rich(self):
