@@ -50,16 +50,16 @@ def compare(petool, path):
         print(f"{path}: petool 0x{ours[0]:08x} 0x{ours[1]:08x}, pefile 0x{theirs[0]:08x} 0x{theirs[1]:08x}")
 
 
-def main(petool, *paths):
+def compare_all(comparison, counts, names, petool, *paths):
+    """Compares each image of the paths, and prints what was counted. Whether there were differences."""
     for path in paths:
         for file in images(path):
-            compare(petool, file)
-    names = ("files", "right", "0", "wrong", "refused", "differences")
-    print(", ".join(f"{COUNTS[it]} {it}" for it in names))
-    return COUNTS["differences"] > 0
+            comparison(petool, file)
+    print(", ".join(f"{counts[it]} {it}" for it in names))
+    return counts["differences"] > 0
 
 
 if __name__ == "__main__":
     if len(sys.argv) < 3:
         sys.exit(__doc__)
-    sys.exit(main(*sys.argv[1:]))
+    sys.exit(compare_all(compare, COUNTS, ("files", "right", "0", "wrong", "refused", "differences"), *sys.argv[1:]))

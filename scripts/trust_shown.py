@@ -16,7 +16,7 @@ import sys
 
 import pefile
 
-from sums import images
+from sums import compare_all
 
 COUNTS = collections.Counter()
 
@@ -61,16 +61,11 @@ def compare(petool, path):
         print(f"{path}: petool {ours}, pefile {theirs}")
 
 
-def main(petool, *paths):
-    for path in paths:
-        for file in images(path):
-            compare(petool, file)
-    names = ("files", "with imports", "with a Rich header", "refused", "differences")
-    print(", ".join(f"{COUNTS[it]} {it}" for it in names))
-    return COUNTS["differences"] > 0
+#: What is counted, in the order of the last line.
+NAMES = ("files", "with imports", "with a Rich header", "refused", "differences")
 
 
 if __name__ == "__main__":
     if len(sys.argv) < 3:
         sys.exit(__doc__)
-    sys.exit(main(*sys.argv[1:]))
+    sys.exit(compare_all(compare, COUNTS, NAMES, *sys.argv[1:]))

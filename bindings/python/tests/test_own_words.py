@@ -29,6 +29,7 @@ from .test_trust import (
     SUBJECT,
     certificate,
     digest_of,
+    each_byte_changed,
     element,
     entry,
     image,
@@ -103,13 +104,9 @@ class OwnWords(unittest.TestCase):
                         self.assertEqual(it.authenticode_digest(name), wanted)
 
     def test_each_byte_that_is_signed_counts(self):
-        file = signed(SHA256, after=b"more")
-        table, size = struct.unpack_from("<II", file, ENTRY)
-        for at in (2, FIELD - 5, FIELD, FIELD + 3, FIELD + 4, ENTRY - 1, table + size, len(file) - 1):
+        for at, other, fits in each_byte_changed():
             with self.subTest(at):
-                other = bytearray(file)
-                other[at] ^= 1
-                self.assertEqual([it.fits for it in self.signatures(other)], [FIELD <= at < FIELD + 4])
+                self.assertEqual([it.fits for it in self.signatures(other)], [fits])
 
     def test_other_signatures(self):
         (other,) = self.signatures(signed(SHA224))

@@ -84,6 +84,16 @@ def signed(algorithm, *certificates, change=b"", after=b""):
     return image(entry(signature(algorithm, change or digest, *certificates)), after=after)
 
 
+def each_byte_changed():
+    """A signed file with one of its bytes changed: its offset, the file, and whether the signature still fits."""
+    file = signed(SHA256, after=b"more")
+    table, size = struct.unpack_from("<II", file, ENTRY)
+    for at in (2, FIELD - 5, FIELD, FIELD + 3, FIELD + 4, ENTRY - 1, table + size, len(file) - 1):
+        other = bytearray(file)
+        other[at] ^= 1
+        yield at, bytes(other), FIELD <= at < FIELD + 4
+
+
 ISSUER = named(("550406", b"DE"), ("550403", b"A Root"))
 SUBJECT = named(("550403", b"An Author"), ("550406", b"DE"))
 
@@ -198,14 +208,9 @@ class Trust(unittest.TestCase):
                                      self.trust(file))
 
     def test_each_byte_that_is_signed_counts(self):
-        file = signed(SHA256, after=b"more")
-        table, size = struct.unpack_from("<II", file, ENTRY)
-        for at in (2, FIELD - 5, FIELD, FIELD + 3, FIELD + 4, ENTRY - 1, table + size, len(file) - 1):
+        for at, other, fits in each_byte_changed():
             with self.subTest(at):
-                other = bytearray(file)
-                other[at] ^= 1
-                is_left_out = FIELD <= at < FIELD + 4
-                self.assertEqual(f"    signed digest SHA-256, {'fits' if is_left_out else 'does not fit'}", self.trust(bytes(other))[1])
+                self.assertEqual(f"    signed digest SHA-256, {'fits' if fits else 'does not fit'}", self.trust(other)[1])
 
     def test_other_signatures(self):
         self.assertEqual("    signed digest of an algorithm that is not computed", self.trust(signed(SHA224))[1])

@@ -61,27 +61,50 @@ fn closed<'a>() -> Space<'a> {
     }
 }
 
+/// A call that opens a space over a set.
+type Opening = unsafe extern "C" fn(
+    *mut sys::Space,
+    *const sys::Entry,
+    usize,
+    bool,
+    *mut u32,
+    *mut sys::Fault,
+) -> u32;
+
+/// The space that a call opens over a set.
+///
+/// # Safety
+/// What the space keeps of the set lives as long as the space is open.
+unsafe fn opened<'a>(
+    call: Opening,
+    set: &[Entry<'_>],
+    policy: Policy,
+) -> Result<Space<'a>, SetError> {
+    let raw_set = raw_entries(set)?;
+    let mut space = closed();
+    let (mut cycle, mut fault) = (0, sys::Fault::default());
+    // SAFETY: the space is closed; the entries and their texts are complete slices, which nobody writes to
+    let status = unsafe {
+        call(
+            &mut space.raw,
+            raw_set.as_ptr(),
+            raw_set.len(),
+            policy.is_known(),
+            &mut cycle,
+            &mut fault,
+        )
+    };
+    match status {
+        sys::PETOOL_OK => Ok(space),
+        _ => Err(SetError::of(status, fault, cycle)),
+    }
+}
+
 impl<'a> Space<'a> {
     /// Maps a set of at most 256 images.
     pub fn map(set: &[Entry<'_>], policy: Policy) -> Result<Space<'a>, SetError> {
-        let raw_set = raw_entries(set)?;
-        let mut space = closed();
-        let (mut cycle, mut fault) = (0, sys::Fault::default());
-        // SAFETY: the space is closed; the entries and their texts are complete slices, which nobody writes to
-        let status = unsafe {
-            sys::petool_space_map(
-                &mut space.raw,
-                raw_set.as_ptr(),
-                raw_set.len(),
-                policy.is_known(),
-                &mut cycle,
-                &mut fault,
-            )
-        };
-        match status {
-            sys::PETOOL_OK => Ok(space),
-            _ => Err(SetError::of(status, fault, cycle)),
-        }
+        // SAFETY: `petool_space_map` keeps none of the entries
+        unsafe { opened(sys::petool_space_map, set, policy) }
     }
 
     /// Maps a set as [`Space::map`] does, unless its images have more than `most_bytes` bytes together: then
@@ -141,25 +164,8 @@ impl<'a> Space<'a> {
     /// drop(space);
     /// ```
     pub fn open(set: &[Entry<'a>], policy: Policy) -> Result<Space<'a>, SetError> {
-        let raw_set = raw_entries(set)?;
-        let mut space = closed();
-        let (mut cycle, mut fault) = (0, sys::Fault::default());
-        // SAFETY: the space is closed; the entries and their texts are complete slices, which nobody writes to, and the
-        // files are borrowed as long as the space is open
-        let status = unsafe {
-            sys::petool_space_open(
-                &mut space.raw,
-                raw_set.as_ptr(),
-                raw_set.len(),
-                policy.is_known(),
-                &mut cycle,
-                &mut fault,
-            )
-        };
-        match status {
-            sys::PETOOL_OK => Ok(space),
-            _ => Err(SetError::of(status, fault, cycle)),
-        }
+        // SAFETY: the files are borrowed as long as the space is open
+        unsafe { opened(sys::petool_space_open, set, policy) }
     }
 
     /// The same space for another thread. As long as there are several of them, none is moved; the memory is freed when
