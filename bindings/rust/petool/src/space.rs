@@ -62,24 +62,13 @@ fn closed<'a>() -> Space<'a> {
 }
 
 /// A call that opens a space over a set.
-type Opening = unsafe extern "C" fn(
-    *mut sys::Space,
-    *const sys::Entry,
-    usize,
-    bool,
-    *mut u32,
-    *mut sys::Fault,
-) -> u32;
+type Opening = unsafe extern "C" fn(*mut sys::Space, *const sys::Entry, usize, bool, *mut u32, *mut sys::Fault) -> u32;
 
 /// The space that a call opens over a set.
 ///
 /// # Safety
 /// What the space keeps of the set lives as long as the space is open.
-unsafe fn opened<'a>(
-    call: Opening,
-    set: &[Entry<'_>],
-    policy: Policy,
-) -> Result<Space<'a>, SetError> {
+unsafe fn opened<'a>(call: Opening, set: &[Entry<'_>], policy: Policy) -> Result<Space<'a>, SetError> {
     let raw_set = raw_entries(set)?;
     let mut space = closed();
     let (mut cycle, mut fault) = (0, sys::Fault::default());
