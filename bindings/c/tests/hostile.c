@@ -16,12 +16,18 @@ static int is_answer(uint32_t status, const petool_fault *fault, unsigned last)
     return status == PETOOL_OK || status == PETOOL_ABSENT || status == PETOOL_SMALL;
 }
 
-/* Whether a call that reads headers and sections returns the fault of petool_check, if that is one of 1 to 15, and else none. */
-static int agrees(uint32_t status, const petool_fault *fault, uint32_t judged, const petool_fault *first)
+/* Whether a call returns the fault of petool_check, if that is one of 1 to `last`, and else none. */
+static int agrees_to(unsigned last, uint32_t status, const petool_fault *fault, uint32_t judged, const petool_fault *first)
 {
-    if (judged == PETOOL_FAULT && first->number <= 15)
+    if (judged == PETOOL_FAULT && first->number <= last)
         return status == PETOOL_FAULT && memcmp(fault, first, sizeof *first) == 0;
     return status != PETOOL_FAULT;
+}
+
+/* That of a call that reads headers and sections. */
+static int agrees(uint32_t status, const petool_fault *fault, uint32_t judged, const petool_fault *first)
+{
+    return agrees_to(15, status, fault, judged, first);
 }
 
 static void ask_headers(const uint8_t *file, size_t len, uint32_t judged, const petool_fault *first)
@@ -83,36 +89,24 @@ static void ask_beyond(const uint8_t *file, size_t len, uint32_t judged, const p
     petool_pdb_file pdb;
     petool_fault found[ROWS], fault = {0, 0, 0, 0};
     size_t count = 0;
-    uint32_t status;
     int right;
     petool_pdb_init(&pdb);
-    status = petool_debug(file, len, entries, ROWS, &count, &fault);
-    right = agrees(status, &fault, judged, first);
-    status = petool_functions(file, len, functions, ROWS, &count, &fault);
-    right = right && agrees(status, &fault, judged, first);
-    status = petool_tls_callbacks(file, len, callbacks, ROWS, &count, &fault);
-    right = right && agrees(status, &fault, judged, first);
-    status = petool_load_configuration(file, len, fields, ROWS, &count, &fault);
-    right = right && agrees(status, &fault, judged, first);
-    status = petool_clr(file, len, fields, ROWS, &count, &fault);
-    right = right && agrees(status, &fault, judged, first);
-    status = petool_bound_imports(file, len, imports, ROWS, &count, &fault);
-    right = right && agrees(status, &fault, judged, first);
-    status = petool_findings(file, len, found, ROWS, &count, &fault);
-    right = right && agrees(status, &fault, judged, first);
-    status = petool_tls(file, len, &tls, &fault);
-    right = right && agrees(status, &fault, judged, first);
-    status = petool_pdb(file, len, &pdb, &fault);
-    right = right && agrees(status, &fault, judged, first);
+    right = agrees(petool_debug(file, len, entries, ROWS, &count, &fault), &fault, judged, first);
+    right = right && agrees(petool_functions(file, len, functions, ROWS, &count, &fault), &fault, judged, first);
+    right = right && agrees(petool_tls_callbacks(file, len, callbacks, ROWS, &count, &fault), &fault, judged, first);
+    right = right && agrees(petool_load_configuration(file, len, fields, ROWS, &count, &fault), &fault, judged, first);
+    right = right && agrees(petool_clr(file, len, fields, ROWS, &count, &fault), &fault, judged, first);
+    right = right && agrees(petool_bound_imports(file, len, imports, ROWS, &count, &fault), &fault, judged, first);
+    right = right && agrees(petool_findings(file, len, found, ROWS, &count, &fault), &fault, judged, first);
+    right = right && agrees(petool_tls(file, len, &tls, &fault), &fault, judged, first);
+    right = right && agrees(petool_pdb(file, len, &pdb, &fault), &fault, judged, first);
     CHECK(right);
 }
 
-/* Whether a call that reads the headers alone returns the fault of petool_check, if that is one of 1 to 12, and else none. */
+/* That of a call that reads the headers alone. */
 static int agrees_of_headers(uint32_t status, const petool_fault *fault, uint32_t judged, const petool_fault *first)
 {
-    if (judged == PETOOL_FAULT && first->number <= 12)
-        return status == PETOOL_FAULT && memcmp(fault, first, sizeof *first) == 0;
-    return status != PETOOL_FAULT;
+    return agrees_to(12, status, fault, judged, first);
 }
 
 /* What a file says of itself, also of a file that is refused behind its headers. */
