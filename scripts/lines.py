@@ -20,6 +20,7 @@ sys.dont_write_bytecode = True
 from pages import changed, fault_words, read  # noqa: E402
 from pages_names import DIRECTORIES, DLL_FLAGS, IMAGE_FLAGS, MACHINES, SECTION_FLAGS, SUBSYSTEMS  # noqa: E402
 from pages_reader import Headers, Image, Refused, is_object, uint  # noqa: E402
+from pages_resources import TEXT, utf8, value_text  # noqa: E402
 from pages_tables import BOUND, CLR, DEBUG, EXCEPTION, LOAD, LOAD_FIELDS, TLS, TYPES, Tables  # noqa: E402
 from pages_trust import ALGORITHMS, Trust, common_name, import_hash, overlay, signed_digest, signers  # noqa: E402
 
@@ -218,6 +219,42 @@ def record_members(tables, is_listed):
     return rows
 
 
+def leaf_row(resources, leaf):
+    """A leaf with the names that lead to it, of which a text has at most 256 units."""
+    row = {"rva": leaf.rva, "size": leaf.size, "code_page": leaf.code_page}
+    for key, name in zip(("type", "name", "language"), leaf.path):
+        units = resources.text(name) if name & TEXT else b""
+        if units is not None:
+            row[key] = utf8(units[:512]).decode() if name & TEXT else name
+    return row
+
+
+def version_member(resources):
+    """What version information says."""
+    if not resources.version:
+        return {}
+    leaf, data = resources.version
+    row = {"rva": leaf.rva}
+    if resources.fixed:
+        numbers = struct.unpack("<8H", struct.pack("<4I", *resources.fixed[:4]))
+        row["file_version"], row["product_version"] = ([numbers[k + i] for i in (1, 0, 3, 2)] for k in (0, 4))
+        row |= zip(("flags_mask", "flags", "system", "type", "subtype"), resources.fixed[4:])
+    if data is not None:
+        row["strings"] = [
+            {"table": utf8(table).decode(), "key": utf8(key).decode(), "value": value_text(value).decode()}
+            for table, key, value in resources.strings
+        ]
+    return {"version": row}
+
+
+def resource_members(resources):
+    """The leaves of the resource tree, version information and the manifest."""
+    rows = {"resources": [leaf_row(resources, leaf) for leaf in resources.leaves]} if resources.start else {}
+    rows |= version_member(resources)
+    manifest = resources.manifest and resources.manifest[1]
+    return rows | (named("manifest", manifest) if manifest is not None else {})
+
+
 def signer_row(signer):
     subject, issuer, serial = signer
     names = (("subject", common_name(subject)), ("issuer", common_name(issuer)))
@@ -276,7 +313,8 @@ def trust_members(trust, has_digests):
 
 
 def findings_member(tables, trust):
-    rows = [fault_member(Refused(number, "rva", at)) for number, at in tables.findings]
+    """The findings of the tables, if these are told, and those of what the file says of itself."""
+    rows = [fault_member(Refused(number, "rva", at)) for number, at in tables.findings] if tables else []
     rows += [fault_member(Refused(number, "file", at)) for number, at in trust.findings]
     return {"findings": rows} if rows else {}
 
@@ -286,9 +324,18 @@ def fault_member(fault):
     return {"number": fault.number, "image": 0, "place": {fault.kind: fault.place}, "subject": subject, "rule": rule}
 
 
+def beyond_members(file, headers, image, is_accepted, options):
+    """What is told beyond the profile: of a refused image, what its file says of itself."""
+    trust, tables = Trust(file, headers), Tables(image, file) if is_accepted else None
+    row = record_members(tables, "--functions" in options) | resource_members(tables.resources) if tables else {}
+    row |= trust_members(trust, "--no-digest" not in options)
+    row |= {"imphash": import_hash(image.imports)} if image and image.imports else {}
+    return row | findings_member(tables, trust)
+
+
 def line_of(name, file, options):
     """The line of an image, with what is told beyond its profile if that is wanted."""
-    fault, row, image = None, {}, None
+    fault, row, headers, image = None, {}, None, None
     try:
         headers = Headers(file)
         row = header_members(file, headers)
@@ -298,12 +345,8 @@ def line_of(name, file, options):
         fault = refused
     if image:
         row |= table_members(image)
-    if fault is None and ("--all" in options or "--functions" in options):
-        tables, trust = Tables(image, file), Trust(file, headers)
-        row |= record_members(tables, "--functions" in options)
-        row |= trust_members(trust, "--no-digest" not in options)
-        row |= {"imphash": import_hash(image.imports)} if image.imports else {}
-        row |= findings_member(tables, trust)
+    if headers and ("--all" in options or "--functions" in options):
+        row |= beyond_members(file, headers, image, fault is None, options)
     begin = {"schema": 1, **named("file", os.fsencode(name)), "accepted": fault is None}
     begin |= {"fault": fault_member(fault)} if fault else {}
     return json.dumps(begin | row, ensure_ascii=False, separators=(",", ":"))

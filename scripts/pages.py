@@ -295,7 +295,7 @@ def table_rows(image, tables, wanted):
         yield from import_rows(image.imports)
     if "relocations" in wanted and image.fixups is not None:
         yield from fixup_rows(image.fixups)
-    yield from pages_tables.rows(tables, wanted, shown, lambda rva: place_of(image, rva)[0])
+    yield from pages_tables.rows(tables, wanted, shown, lambda rva: place_of(image, rva)[0], UNSAFE)
 
 
 def image_page(file, wanted):

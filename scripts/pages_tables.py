@@ -6,11 +6,12 @@ An image is that of pages_reader.py. The names come from "PE Format" and from th
 import datetime
 import struct
 
+import pages_resources
 from pages_reader import uint
 
 EXCEPTION, CERTIFICATE, DEBUG, TLS, LOAD, BOUND, CLR = 3, 4, 6, 9, 10, 11, 14
 #: The options of `show` that add the rows of these tables.
-TABLES = ("debug", "functions", "tls", "load")
+TABLES = ("debug", "functions", "tls", "load", "resources")
 TYPES = dict(enumerate("UNKNOWN COFF CODEVIEW FPO MISC EXCEPTION FIXUP OMAP_TO_SRC OMAP_FROM_SRC BORLAND RESERVED10 CLSID VC_FEATURE POGO "
                        "ILTCG MPX REPRO EMBEDDED_PDB".split())) | {19: "PDBCHECKSUM", 20: "EX_DLLCHARACTERISTICS"}
 TLS_FIELDS = "StartAddressOfRawData EndAddressOfRawData AddressOfIndex AddressOfCallBacks SizeOfZeroFill Characteristics".split()
@@ -40,6 +41,8 @@ class Tables:
         self.width, self.machine = 8 if image.wide else 4, image.headers.machine
         self.findings = [*self.debug_findings(), *self.function_findings(), *self.tls_findings(), *self.load_findings(),
                          *self.bound_findings(), *self.clr_findings()]
+        self.resources = pages_resources.Resources(image, self.held)
+        self.findings += self.resources.findings
 
     def held(self, rva):
         """The bytes that the file holds in one run from an RVA on."""
@@ -267,7 +270,7 @@ def counted(count, one, more=None):
 
 def table_of(number):
     """The directory of a finding's table; the Rich header has none."""
-    ends = {110: DEBUG, 130: EXCEPTION, 140: TLS, 150: LOAD, 160: BOUND, 240: CERTIFICATE, 250: None, 260: CLR}
+    ends = {110: DEBUG, 130: EXCEPTION, 140: TLS, 150: LOAD, 160: BOUND, 220: pages_resources.RESOURCE, 240: CERTIFICATE, 250: None, 260: CLR}
     return next(index for end, index in ends.items() if number <= end)
 
 
@@ -282,6 +285,8 @@ def summary(tables, index, shown):
     if index == DEBUG:
         pdb = tables.pdb()
         words = counted(len(tables.entries()), "entry", "entries") + (f", PDB {shown(file_name(pdb[3]))}" if pdb else "")
+    elif index == pages_resources.RESOURCE:
+        words = pages_resources.summary(tables.resources, shown)
     elif index == EXCEPTION and functions is not None:
         words = counted(len(functions), "function")
     elif index == TLS:
@@ -299,11 +304,14 @@ def summary(tables, index, shown):
 
 
 def identity_rows(tables, shown):
-    pdb = tables.pdb()
+    pdb, version = tables.pdb(), tables.resources.version
+    if pdb or version and version[1] is not None:
+        yield "\nIdentity"
+    yield from pages_resources.identity_rows(tables.resources, shown)
     if pdb is None:
         return
     kind, raw, age, path = pdb
-    yield from ("\nIdentity", f"  PDB          {shown(path)}")
+    yield f"  PDB          {shown(path)}"
     if kind == "RSDS":
         key = (raw[3::-1] + raw[5:3:-1] + raw[7:5:-1] + raw[8:]).hex()
         yield f"  GUID         {'-'.join((key[:8], key[8:12], key[12:16], key[16:20], key[20:]))}, age {age}"
@@ -389,8 +397,8 @@ def load_rows(tables):
         yield from (f"  {name:40}  0x{value:x}" for name, value in fields.items())
 
 
-def rows(tables, wanted, shown, place):
-    """The rows of the tables that options select."""
+def rows(tables, wanted, shown, place, unsafe):
+    """The rows of the tables that options select. `unsafe` finds characters that are not to be written to a terminal."""
     if "debug" in wanted:
         yield from debug_rows(tables, shown)
     if "functions" in wanted:
@@ -399,6 +407,8 @@ def rows(tables, wanted, shown, place):
         yield from tls_rows(tables, place)
     if "load" in wanted:
         yield from load_rows(tables)
+    if "resources" in wanted:
+        yield from pages_resources.rows(tables.resources, shown, unsafe)
 
 
 def finding_rows(findings, trust, words):

@@ -341,8 +341,8 @@ PETOOL_WARN_UNUSED uint32_t petool_import_at(const uint8_t *file, size_t len, ui
  * RVA on in one run: what is in zero fill has no rows. */
 
 /* All findings, of these tables and those of petool_trust_findings, by table in the order of their numbers, and of each table those
- * of its directory before those of its records; of image 0. OK; SMALL; FAULT, with one of 1 to 15; or MEMORY, but only if one of
- * these tables has a finding. */
+ * of its directory before those of its records; those of the resources as their tree is read; of image 0. OK; SMALL; FAULT, with one
+ * of 1 to 15; or MEMORY, but only if the image has a resource directory, or another of these tables has a finding. */
 PETOOL_WARN_UNUSED uint32_t petool_findings(const uint8_t *file, size_t len, petool_fault *rows, size_t room, size_t *count,
                                             petool_fault *fault);
 
@@ -461,6 +461,89 @@ PETOOL_WARN_UNUSED uint32_t petool_bound_imports(const uint8_t *file, size_t len
  * VTableFixups, ExportAddressTableJumps and ManagedNativeHeader. OK; SMALL; or FAULT, with one of 1 to 15. */
 PETOOL_WARN_UNUSED uint32_t petool_clr(const uint8_t *file, size_t len, petool_field *rows, size_t room, size_t *count,
                                        petool_fault *fault);
+
+/* ---- an image: its resources ---- */
+
+/* from describe/records.txt: resource_names, resource_name, resource */
+enum {
+    PETOOL_NAMED_NOTHING = 0, /* nothing: the tree ends before this level */
+    PETOOL_NAMED_ID = 1,      /* an id */
+    PETOOL_NAMED_TEXT = 2     /* a text */
+};
+
+typedef struct petool_resource_name {
+    petool_text text; /* the text, in UTF-16, little endian; empty for an id, and if the file does not hold the text in one run */
+    uint32_t number;  /* the id, or where the text is, in bytes from the beginning of the tree; otherwise 0 */
+    uint32_t kind;
+} petool_resource_name;
+
+typedef struct petool_resource {
+    petool_resource_name kind;     /* the type: 16 version information, 24 a manifest */
+    petool_resource_name name;     /* the name */
+    petool_resource_name language; /* the language */
+    petool_text bytes;             /* its data; empty if the file does not hold all of it in one run */
+    uint32_t rva, size;            /* the RVA of the data, and how many bytes it has */
+    uint32_t code_page;            /* the code page of texts in the data, as written */
+} petool_resource;
+/* end of describe/records.txt */
+
+static inline void petool_resources_init(petool_resource *rows, size_t count)
+{
+    petool_resource none = {{PETOOL_NONE, 0, 0}, {PETOOL_NONE, 0, 0}, {PETOOL_NONE, 0, 0}, PETOOL_NONE, 0, 0, 0};
+    for (size_t k = 0; k < count; k++)
+        rows[k] = none;
+}
+
+/* The leaves of the resource tree, in the order of the tree, which is read as three levels: types, names and languages. A directory
+ * that has a byte in common with one that was read before it is not read again, and is finding 185, so there are at most as many
+ * leaves as the file has bytes for, 8 for each. OK; SMALL; FAULT, with one of 1 to 15; or MEMORY. The rows must be initialized
+ * before. */
+PETOOL_WARN_UNUSED uint32_t petool_resources(const uint8_t *file, size_t len, petool_resource *rows, size_t room, size_t *count,
+                                             petool_fault *fault);
+
+/* from describe/records.txt: version_info */
+typedef struct petool_version_info {
+    uint16_t file_version[4];    /* the version of the file, from its first number to its last */
+    uint16_t product_version[4]; /* the versions of the file and of the product, from the first number to the last */
+    uint32_t flags_mask, flags;  /* which flags are valid, and the flags: 1 a debug build, 2 a prerelease, 8 a private build */
+    uint32_t system;             /* the operating system that the file is for: 0x40004 Windows */
+    uint32_t kind;               /* what the file is: 1 a program, 2 a library, 3 a driver */
+    uint32_t subkind;            /* the kind of driver or font */
+} petool_version_info;
+/* end of describe/records.txt */
+
+/* The fixed part of the version information, which is the first resource of type 16. OK; ABSENT if there is none, or it does not
+ * begin as it must; or FAULT, with one of 1 to 15. */
+PETOOL_WARN_UNUSED uint32_t petool_version(const uint8_t *file, size_t len, petool_version_info *version, petool_fault *fault);
+
+/* from describe/records.txt: version_text */
+typedef struct petool_version_text {
+    petool_text table; /* 8 hexadecimal digits: the language and the code page */
+    petool_text key;   /* what the string is, such as ProductVersion */
+    petool_text value; /* the string */
+} petool_version_text;
+/* end of describe/records.txt */
+
+static inline void petool_version_texts_init(petool_version_text *rows, size_t count)
+{
+    petool_version_text none = {PETOOL_NONE, PETOOL_NONE, PETOOL_NONE};
+    for (size_t k = 0; k < count; k++)
+        rows[k] = none;
+}
+
+/* The strings of the version information, of each table in its order. OK; SMALL; or FAULT, with one of 1 to 15. The rows must be
+ * initialized before. */
+PETOOL_WARN_UNUSED uint32_t petool_version_strings(const uint8_t *file, size_t len, petool_version_text *rows, size_t room,
+                                                   size_t *count, petool_fault *fault);
+
+/* The first of these strings whose key is this one in ASCII, such as "ProductVersion", in UTF-16, little endian. OK; ABSENT; or
+ * FAULT, with one of 1 to 15. */
+PETOOL_WARN_UNUSED uint32_t petool_version_string(const uint8_t *file, size_t len, const uint8_t *key, size_t key_len,
+                                                  petool_text *value, petool_fault *fault);
+
+/* The manifest, as the file has it, mostly in UTF-8: the resource of type 24 and name 1, else of name 2, else the first of type 24.
+ * OK; ABSENT if there is none, or the file does not hold all of it in one run; or FAULT, with one of 1 to 15. */
+PETOOL_WARN_UNUSED uint32_t petool_manifest(const uint8_t *file, size_t len, petool_text *manifest, petool_fault *fault);
 
 /* ---- an image: what its file says of itself ---- */
 
@@ -1168,6 +1251,59 @@ PETOOL_WARN_UNUSED static inline uint32_t petool_nullable_clr(const uint8_t *fil
 }
 #define petool_clr petool_nullable_clr
 
+PETOOL_WARN_UNUSED static inline uint32_t petool_nullable_resources(const uint8_t *file, size_t len, petool_resource *rows,
+                                                                    size_t room, size_t *count, petool_fault *fault)
+{
+    if (PETOOL_IS_LOST(file, len))
+        return PETOOL_ARGUMENT;
+    if (PETOOL_IS_LOST(rows, room))
+        return PETOOL_ARGUMENT;
+    return petool_resources((const uint8_t *)petool_some(file), len, (petool_resource *)petool_room(rows), room, count, fault);
+}
+#define petool_resources petool_nullable_resources
+
+PETOOL_WARN_UNUSED static inline uint32_t petool_nullable_version(const uint8_t *file, size_t len, petool_version_info *version,
+                                                                  petool_fault *fault)
+{
+    if (PETOOL_IS_LOST(file, len))
+        return PETOOL_ARGUMENT;
+    return petool_version((const uint8_t *)petool_some(file), len, version, fault);
+}
+#define petool_version petool_nullable_version
+
+PETOOL_WARN_UNUSED static inline uint32_t petool_nullable_version_strings(const uint8_t *file, size_t len,
+                                                                          petool_version_text *rows, size_t room, size_t *count,
+                                                                          petool_fault *fault)
+{
+    if (PETOOL_IS_LOST(file, len))
+        return PETOOL_ARGUMENT;
+    if (PETOOL_IS_LOST(rows, room))
+        return PETOOL_ARGUMENT;
+    return petool_version_strings((const uint8_t *)petool_some(file), len, (petool_version_text *)petool_room(rows), room, count,
+                                  fault);
+}
+#define petool_version_strings petool_nullable_version_strings
+
+PETOOL_WARN_UNUSED static inline uint32_t petool_nullable_version_string(const uint8_t *file, size_t len, const uint8_t *key,
+                                                                         size_t key_len, petool_text *value, petool_fault *fault)
+{
+    if (PETOOL_IS_LOST(file, len))
+        return PETOOL_ARGUMENT;
+    if (PETOOL_IS_LOST(key, key_len))
+        return PETOOL_ARGUMENT;
+    return petool_version_string((const uint8_t *)petool_some(file), len, (const uint8_t *)petool_some(key), key_len, value, fault);
+}
+#define petool_version_string petool_nullable_version_string
+
+PETOOL_WARN_UNUSED static inline uint32_t petool_nullable_manifest(const uint8_t *file, size_t len, petool_text *manifest,
+                                                                   petool_fault *fault)
+{
+    if (PETOOL_IS_LOST(file, len))
+        return PETOOL_ARGUMENT;
+    return petool_manifest((const uint8_t *)petool_some(file), len, manifest, fault);
+}
+#define petool_manifest petool_nullable_manifest
+
 PETOOL_WARN_UNUSED static inline uint32_t petool_nullable_check_sum(const uint8_t *file, size_t len, petool_check_sums *sum,
                                                                     petool_fault *fault)
 {
@@ -1653,6 +1789,30 @@ PETOOL_SIZE(petool_bound_import, 8);
 PETOOL_AT(petool_bound_import, time_date_stamp, 0);
 PETOOL_AT(petool_bound_import, offset_module_name, 4);
 PETOOL_AT(petool_bound_import, number_of_module_forwarder_refs, 6);
+PETOOL_SIZE(petool_resource_name, 24);
+PETOOL_AT(petool_resource_name, text, 0);
+PETOOL_AT(petool_resource_name, number, 16);
+PETOOL_AT(petool_resource_name, kind, 20);
+PETOOL_SIZE(petool_resource, 104);
+PETOOL_AT(petool_resource, kind, 0);
+PETOOL_AT(petool_resource, name, 24);
+PETOOL_AT(petool_resource, language, 48);
+PETOOL_AT(petool_resource, bytes, 72);
+PETOOL_AT(petool_resource, rva, 88);
+PETOOL_AT(petool_resource, size, 92);
+PETOOL_AT(petool_resource, code_page, 96);
+PETOOL_SIZE(petool_version_info, 36);
+PETOOL_AT(petool_version_info, file_version, 0);
+PETOOL_AT(petool_version_info, product_version, 8);
+PETOOL_AT(petool_version_info, flags_mask, 16);
+PETOOL_AT(petool_version_info, flags, 20);
+PETOOL_AT(petool_version_info, system, 24);
+PETOOL_AT(petool_version_info, kind, 28);
+PETOOL_AT(petool_version_info, subkind, 32);
+PETOOL_SIZE(petool_version_text, 48);
+PETOOL_AT(petool_version_text, table, 0);
+PETOOL_AT(petool_version_text, key, 16);
+PETOOL_AT(petool_version_text, value, 32);
 PETOOL_SIZE(petool_check_sums, 8);
 PETOOL_AT(petool_check_sums, written, 0);
 PETOOL_AT(petool_check_sums, computed, 4);

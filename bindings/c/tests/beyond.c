@@ -1,46 +1,7 @@
 /*
- * The calls for tables beyond the profile. The files are v1.dll with another section, written byte by byte from the format: it is
- * at RVA 0x1000 and at 0x200 of the file, ImageBase is 0x10000000, and SizeOfImage 0x3000.
+ * The calls for tables beyond the profile, over files whose section is written byte by byte from the format.
  */
-#include "check.h"
-
-static const petool_fault UNTOLD = {0x7777, 9, 0x88888888, 0xaaaa};
-
-static bytes v1;
-
-static int is_untold(petool_fault fault)
-{
-    return fault.number == UNTOLD.number && fault.image == UNTOLD.image && fault.place == UNTOLD.place && fault.at == UNTOLD.at;
-}
-
-static int is_finding(petool_fault it, uint16_t number, uint64_t rva)
-{
-    return it.number == number && it.place == PETOOL_PLACE_RVA && it.image == 0 && it.at == rva;
-}
-
-static void put_number(uint8_t *at, uint32_t number)
-{
-    for (int k = 0; k < 4; k++)
-        at[k] = (uint8_t)(number >> 8 * k);
-}
-
-/* The file with these bytes in its section, and a directory of so many bytes at RVA 0x1000. */
-static bytes with_section(uint32_t index, uint32_t size, uint16_t machine, const void *section, size_t len)
-{
-    bytes file = {(uint8_t *)malloc(0x200 + len), 0x200 + len};
-    if (file.at == NULL)
-        exit(3);
-    memcpy(file.at, v1.at, 0x200);
-    memcpy(file.at + 0x200, section, len);
-    file.at[0x44] = (uint8_t)machine;
-    file.at[0x45] = (uint8_t)(machine >> 8);
-    put_number(file.at + 0x90, 0x3000);
-    put_number(file.at + 0xb8 + 8 * index, 0x1000);
-    put_number(file.at + 0xbc + 8 * index, size);
-    put_number(file.at + 0x140, (uint32_t)len);
-    put_number(file.at + 0x148, (uint32_t)len);
-    return file;
-}
+#include "section.h"
 
 /* Two entries, each field of the first with another value, and the data of the second: a record of a PDB 7.0 file. */
 static const uint8_t DEBUG[56 + 30] = {

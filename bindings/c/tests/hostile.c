@@ -87,10 +87,16 @@ static void ask_beyond(const uint8_t *file, size_t len, uint32_t judged, const p
     petool_bound_import imports[ROWS];
     petool_tls_directory tls;
     petool_pdb_file pdb;
+    petool_resource resources[ROWS];
+    petool_version_text texts[ROWS];
+    petool_version_info version;
+    petool_text text = PETOOL_NONE;
     petool_fault found[ROWS], fault = {0, 0, 0, 0};
     size_t count = 0;
     int right;
     petool_pdb_init(&pdb);
+    petool_resources_init(resources, ROWS);
+    petool_version_texts_init(texts, ROWS);
     right = agrees(petool_debug(file, len, entries, ROWS, &count, &fault), &fault, judged, first);
     right = right && agrees(petool_functions(file, len, functions, ROWS, &count, &fault), &fault, judged, first);
     right = right && agrees(petool_tls_callbacks(file, len, callbacks, ROWS, &count, &fault), &fault, judged, first);
@@ -100,6 +106,11 @@ static void ask_beyond(const uint8_t *file, size_t len, uint32_t judged, const p
     right = right && agrees(petool_findings(file, len, found, ROWS, &count, &fault), &fault, judged, first);
     right = right && agrees(petool_tls(file, len, &tls, &fault), &fault, judged, first);
     right = right && agrees(petool_pdb(file, len, &pdb, &fault), &fault, judged, first);
+    right = right && agrees(petool_resources(file, len, resources, ROWS, &count, &fault), &fault, judged, first) && count <= len / 8;
+    right = right && agrees(petool_version(file, len, &version, &fault), &fault, judged, first);
+    right = right && agrees(petool_version_strings(file, len, texts, ROWS, &count, &fault), &fault, judged, first) && count <= len / 6;
+    right = right && agrees(petool_version_string(file, len, (const uint8_t *)"k", 1, &text, &fault), &fault, judged, first);
+    right = right && agrees(petool_manifest(file, len, &text, &fault), &fault, judged, first);
     CHECK(right);
 }
 

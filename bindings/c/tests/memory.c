@@ -3,7 +3,7 @@
  * unchanged, and frees all of its memory; or, if only memory was refused that it can do without, it succeeds. The linker replaces
  * malloc, realloc and free with the functions below.
  */
-#include "check.h"
+#include "section.h"
 
 void *__real_malloc(size_t size);
 void *__real_realloc(void *at, size_t size);
@@ -46,7 +46,7 @@ void __wrap_free(void *at)
     __real_free(at);
 }
 
-static bytes v1, va, vb, vc, vr, v2;
+static bytes va, vb, vc, vr, v2, v3;
 static petool_entry abc[3];
 static petool_fault fault;
 static petool_image image;
@@ -113,6 +113,24 @@ static uint32_t find_rules(void)
     petool_fault rows[2];
     memset(rows, 0, sizeof rows);
     return petool_findings(v1.at, v1.len, rows, 2, &count, &fault);
+}
+
+/* A resource directory of one entry: a leaf at the first level, which is finding 186. */
+static const uint8_t LEAF[40] = {
+    0, 0, 0, 0, 0, 0, 0, 0, 0, 0, 0, 0, 0, 0, 1, 0, 1, 0, 0, 0, 24, 0, 0, 0, 0, 0x10, 0, 0, 4, 0, 0, 0, 0, 0, 0, 0, 0, 0, 0, 0,
+};
+
+static uint32_t read_resources(void)
+{
+    petool_resource row;
+    petool_resources_init(&row, 1);
+    return petool_resources(v3.at, v3.len, &row, 1, &count, &fault);
+}
+
+static uint32_t find_resources(void)
+{
+    petool_fault row = {0, 0, 0, 0};
+    return petool_findings(v3.at, v3.len, &row, 1, &count, &fault);
 }
 
 static uint32_t open_file(void)
@@ -316,6 +334,7 @@ int main(int argc, char **argv)
     vr = file_in(argv[1], "vr.dll");
     v2 = file_in(argv[1], "v2.dll");
     v1 = file_in(argv[1], "v1.dll");
+    v3 = with_section(2, 40, 0x14c, LEAF, sizeof LEAF);
     v1.at[0xe9] = 0x10, v1.at[0xec] = 29;
     set_abc(abc, va, vb, vc);
     refuse_each("petool_check", judge_file, 0);
@@ -327,6 +346,8 @@ int main(int argc, char **argv)
     refuse_each("petool_export_by_name", find_name, SORTING);
     refuse_each("petool_export_by_ordinal", find_ordinal, SORTING);
     refuse_each("petool_findings", find_rules, 0);
+    refuse_each("petool_findings of resources", find_resources, 0);
+    refuse_each("petool_resources", read_resources, 0);
     refuse_each("petool_image_open", open_file, 0);
     refuse_each("petool_image_open over an open image", open_over, 0);
     refuse_each("petool_image_share", share_image, 0);
@@ -339,6 +360,6 @@ int main(int argc, char **argv)
     refuse_each("petool_space_share", share_space, 0);
     refuse_each("petool_unbound", find_unbound, 0);
     check_opened();
-    free(v1.at), free(va.at), free(vb.at), free(vc.at), free(vr.at), free(v2.at);
+    free(v1.at), free(va.at), free(vb.at), free(vc.at), free(vr.at), free(v2.at), free(v3.at);
     return told();
 }

@@ -24,8 +24,8 @@ What is raised:
 
 ``Image.text`` and ``Image.locate`` return None if there is no such string or byte.
 
-Debug data, functions, TLS, the load configuration, bound imports, the CLR header, certificates and the Rich header refuse no image:
-``Image.findings`` has each of their rules that is broken. ``Trust`` has CheckSum, certificates, signatures, Rich header and overlay of
+Debug data, functions, TLS, the load configuration, bound imports, the CLR header, resources, certificates and the Rich header refuse no
+image: ``Image.findings`` has each of their rules that is broken. ``Trust`` has CheckSum, certificates, signatures, Rich header and overlay of
 an image that is refused behind its headers, too.
 
 Data is any object with the buffer protocol: bytes, bytearray, memoryview, mmap. It is not copied, and nobody may change it while a
@@ -65,6 +65,7 @@ from ._object import (
     ObjectSymbol,
     SectionHeader,
 )
+from ._resource import Resource, ResourceName, Version, VersionString
 from ._space import Binding, Moved, Space, Standing, UnboundImport, judge, unbound
 from ._tables import BoundImport, ClrHeader, DebugEntry, Finding, Function, LoadConfiguration, Pdb, Tls
 from ._trust import Certificate, CheckSum, Overlay, RichHeader, RichPair, Signature, Signer, Trust
@@ -109,6 +110,8 @@ __all__ = [
     "Overlay",
     "Pdb",
     "Place",
+    "Resource",
+    "ResourceName",
     "RichHeader",
     "RichPair",
     "Rva",
@@ -124,6 +127,8 @@ __all__ = [
     "Tls",
     "Trust",
     "UnboundImport",
+    "Version",
+    "VersionString",
     "check",
     "judge",
     "name_of",

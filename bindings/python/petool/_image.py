@@ -13,12 +13,13 @@ from ctypes import byref
 from dataclasses import dataclass, fields
 from typing import Any, Callable, Dict, Iterator, NamedTuple, Optional, Sequence, Tuple, Union
 
-from . import _library, _records, _section_names, _tables
+from . import _library, _records, _resource, _section_names, _tables
 from ._bytes import LAYOUTS, Buffer, FileBytes, RowLayout, Rows, address_of, read_rows, unsigned, view_of
 from ._fault import FormatFault, ask, raise_for
 from ._file import OfFile
 from ._joined import HEADS, Joined
 from ._library import library
+from ._resource import Resource, Version
 from ._tables import BoundImport, ClrHeader, DebugEntry, Finding, Function, LoadConfiguration, Pdb, Tls
 from ._trust import TrustOfFile
 
@@ -384,6 +385,7 @@ class Image(TrustOfFile):
         self._fixup_rows: Optional[memoryview] = None
         self._debug: Optional[Rows[DebugEntry]] = None
         self._functions: Optional[Rows[Function]] = None
+        self._resources: Optional[Rows[Resource]] = None
         self._findings: Optional[Tuple[Finding, ...]] = None
         try:
             if check:
@@ -535,6 +537,25 @@ class Image(TrustOfFile):
         layout, start = LAYOUTS["bound_import"], self.headers.directories[_BOUND_IMPORT].rva
         rows = layout.struct.iter_unpack(self._beyond("bound_imports", layout))
         return tuple(BoundImport(stamp, offset, count, self.text(start + offset)) for stamp, offset, count in rows)
+
+    @property
+    def resources(self) -> Sequence[Resource]:
+        """The leaves of the resource tree, in the order of the tree, read when first needed."""
+        if self._resources is None:
+            layout = LAYOUTS["resource"]
+            self._resources = Rows(self._beyond("resources", layout), layout, _resource.resource_of(self._file))
+        return self._resources
+
+    @property
+    def version(self) -> Optional[Version]:
+        """The version information; None if there is none."""
+        layout = LAYOUTS["version_text"]
+        return _resource.version_by(self._file, self._ask, lambda: self._beyond("version_strings", layout))
+
+    @property
+    def manifest(self) -> Optional[bytes]:
+        """The manifest as the file has it, mostly in UTF-8; None if there is none, or the file does not hold all of it in one run."""
+        return _resource.manifest_by(self._file, self._ask)
 
     @property
     def findings(self) -> Tuple[Finding, ...]:

@@ -108,6 +108,22 @@ class TlsDirectory(Structure):
     ]
 
 
+class ResourceName(Structure):
+    _fields_ = [("text", Text), ("number", c_uint32), ("kind", c_uint32)]
+
+
+class VersionInfo(Structure):
+    _fields_ = [
+        ("file_version", c_uint16 * 4),
+        ("product_version", c_uint16 * 4),
+        ("flags_mask", c_uint32),
+        ("flags", c_uint32),
+        ("system", c_uint32),
+        ("kind", c_uint32),
+        ("subkind", c_uint32),
+    ]
+
+
 class CheckSums(Structure):
     _fields_ = [("written", c_uint32), ("computed", c_uint32)]
 
@@ -177,6 +193,8 @@ FORMS = {
     "callback": "Q",
     "field": "Q?xxxxxxx",
     "bound_import": "IHH",
+    "resource": "PNIIPNIIPNIIPNIIIxxxx",
+    "version_text": "PNPNPN",
     "certificate": "QPNIHH",
     "signature": "QPNPNII",
     "signer": "PNPNPNPNPN",
@@ -234,6 +252,11 @@ CALLS: Dict[str, Tuple[Any, List[Any]]] = {
     ),
     "petool_bound_imports": (c_uint32, [c_void_p, c_size_t, c_void_p, c_size_t, POINTER(c_size_t), POINTER(Fault)]),
     "petool_clr": (c_uint32, [c_void_p, c_size_t, c_void_p, c_size_t, POINTER(c_size_t), POINTER(Fault)]),
+    "petool_resources": (c_uint32, [c_void_p, c_size_t, c_void_p, c_size_t, POINTER(c_size_t), POINTER(Fault)]),
+    "petool_version": (c_uint32, [c_void_p, c_size_t, POINTER(VersionInfo), POINTER(Fault)]),
+    "petool_version_strings": (c_uint32, [c_void_p, c_size_t, c_void_p, c_size_t, POINTER(c_size_t), POINTER(Fault)]),
+    "petool_version_string": (c_uint32, [c_void_p, c_size_t, c_void_p, c_size_t, POINTER(Text), POINTER(Fault)]),
+    "petool_manifest": (c_uint32, [c_void_p, c_size_t, POINTER(Text), POINTER(Fault)]),
     "petool_check_sum": (c_uint32, [c_void_p, c_size_t, POINTER(CheckSums), POINTER(Fault)]),
     "petool_certificates": (c_uint32, [c_void_p, c_size_t, c_void_p, c_size_t, POINTER(c_size_t), POINTER(Fault)]),
     "petool_authenticode": (c_uint32, [c_void_p, c_size_t, c_void_p, c_size_t, POINTER(c_size_t), POINTER(Fault)]),

@@ -1,17 +1,12 @@
 """The tables beyond the profile on pages: the summaries at their directories, their rows, and each finding by a file of its own."""
 
-import os
-import pathlib
 import re
 import struct
-import tempfile
 import unittest
 
 from .cases import run
 from .files import changed, numbers, put
-
-PROGRAM = os.environ.get("PETOOL_PROGRAM")
-TOP = pathlib.Path(__file__).resolve().parents[3]
+from .finding_pages import PROGRAM, FindingPages
 
 AMD64, ARM64 = 0x8664, 0xAA64
 BASE = 0x10000000
@@ -240,41 +235,10 @@ ROWS = [
 ]
 
 
-def words_of():
-    """The words of each finding, as describe/faults.txt has them."""
-    rows = re.findall(r"^  (\d+) ([^:]+): (.+)$", (TOP / "describe/faults.txt").read_text(), re.M)
-    return {int(number): (subject, rule) for number, subject, rule in rows}
-
-
 @unittest.skipUnless(PROGRAM, "left out without program: PETOOL_PROGRAM names none")
-class Beyond(unittest.TestCase):
-    maxDiff = None
-
-    def setUp(self):
-        folder = tempfile.TemporaryDirectory()
-        self.addCleanup(folder.cleanup)
-        self.folder = pathlib.Path(folder.name)
-
-    def parts(self, file, *options):
-        """The parts of the page of a file, which is accepted, by their headings."""
-        (self.folder / "a").write_bytes(file)
-        done = run([PROGRAM, "show", *options, "a"], cwd=self.folder)
-        self.assertEqual((done.stderr, done.returncode), (b"", 0))
-        blocks = [block.split("\n") for block in done.stdout.decode().strip("\n").split("\n\n")]
-        return {block[0]: block[1:] for block in blocks}
-
-    def test_each_finding_has_a_file(self):
-        words = words_of()
-        self.assertEqual({it[0] for it in FOUND}, {number for number in words if number > 100 and number not in range(221, 251)})
-        for number, file, rva in FOUND:
-            with self.subTest(number):
-                subject, rule = words[number]
-                self.assertEqual(self.parts(file).get("Findings (1)"), [f"  {number}  {subject} at RVA 0x{rva:x}: {rule}"])
-
-    def test_files_without_a_finding(self):
-        for number, file in enumerate(SOUND):
-            with self.subTest(number):
-                self.assertEqual([heading for heading in self.parts(file, "--all") if heading.startswith("Findings")], [])
+class Beyond(FindingPages, unittest.TestCase):
+    # those of resources and of what a file says of itself have tests of their own
+    NUMBERS, FOUND, SOUND = (range(101, 181), range(251, 301)), FOUND, SOUND
 
     def test_a_finding_is_explained(self):
         done = run([PROGRAM, "explain", "103"])

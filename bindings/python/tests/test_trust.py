@@ -13,7 +13,7 @@ import unittest
 
 from .cases import run
 from .files import importing, numbers, put
-from .test_findings import words_of
+from .finding_pages import words_of
 from .test_program import NAMED as IMPORTS_NAME
 from .test_program import image_of
 from .test_sum import sum_of

@@ -16,6 +16,7 @@ const WHOLE_PAGE: ShowOptions = ShowOptions {
     functions: true,
     tls: true,
     load: true,
+    resources: true,
     trust: true,
     is_coloured: false,
 };

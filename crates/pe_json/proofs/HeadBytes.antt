@@ -16,12 +16,15 @@ head_has_bytes number file none =
     let enough : 64 ≤ length file = ltb-false _ _ (none_stands (head_tests number file) 1 _ none refl) in
     omega (arith, enough)
 
+pub head_is_small : (number : ℕ) (file : List ℕ) → first_standing (head_tests number file) ≡ None → length file ≤ 2 ^ 32
+unfolding head_tests
+head_is_small number file none = ltb-false _ _ (none_stands (head_tests number file) 0 _ none refl)
+
 pub image_is_small : (number : ℕ) (file : List ℕ) → first_standing (image_tests number file) ≡ None → length file ≤ 2 ^ 32
-unfolding image_tests head_tests
+unfolding image_tests
 image_is_small number file none =
     let layout = (none-append (layout_tests number file) (table_tests (image_of_file number file)) none).0 in
-    let head = (none-append (head_tests number file) (placing_tests number (head_of file) (length file)) layout).0 in
-    ltb-false _ _ (none_stands (head_tests number file) 0 _ head refl)
+    head_is_small number file (none-append (head_tests number file) (placing_tests number (head_of file) (length file)) layout).0
 
 -- what holds in any case holds on an error
 pub on_any : {X E : Type 0} (r : Result X E) (P : Type 0) → P → OnErr r P

@@ -17,10 +17,13 @@ pub mod OrderedNames
 pub mod Printed
 pub mod RecordValues
 pub mod RefusedAlike
+pub mod ResourceLineRows
+pub mod ResourceValues
 pub mod RowByRow
 pub mod SameLines
 pub mod Sized
 pub mod Tested
 pub mod TrustValues
+pub mod Utf16Texts
 pub mod Values
 pub mod Zeros

@@ -29,15 +29,15 @@ use Rattle.pe_json.specs.Line.{first_members, line}
 use Rattle.pe_json.specs.ImageLine.{head_members, exports_members, imports_members, fixups_members}
 use Rattle.pe_json.specs.ObjectLine.{object_members}
 use Rattle.pe_json.specs.Refused.{fault_members, exports_if, imports_if, fixups_if, kind_of_refused, refused_line}
-use Rattle.pe_json.specs.ImageRecords.{members_beyond}
+use Rattle.pe_json.specs.ImageRecords.{members_beyond, own_members}
 use Rattle.pe_json.specs.declared.beyond.Beyond.{Beyond}
-use Rattle.pe_json.specs.FileLine.{whole_tables, laid_out_tables, image_members, object_file_line, image_file_line, file_line}
+use Rattle.pe_json.specs.FileLine.{whole_tables, laid_out_tables, image_members, refused_imports, refused_beyond, object_file_line, image_file_line, file_line}
 use Rattle.pe_json.proofs.Printed.{AreMembers, ascii, is_boolean, object_text}
 use Rattle.pe_json.proofs.JsonMembers.{IfUtf8, is_member, number_member, name_member, members_then, text_members}
 use Rattle.pe_json.proofs.FaultValues.{are_fault_members}
 use Rattle.pe_json.proofs.ImageValues.{are_head_members, are_exports_members, are_imports_members, are_fixups_members}
 use Rattle.pe_json.proofs.ObjectValues.{are_object_members}
-use Rattle.pe_json.proofs.RecordValues.{are_members_beyond}
+use Rattle.pe_json.proofs.RecordValues.{are_members_beyond, are_own_members}
 
 -- ---- what of a refused image has no fault
 are_exports_if : (limit : ℕ) (exports : Option Exports) → AreMembers (suc (suc (suc limit))) (exports_if exports)
@@ -72,6 +72,11 @@ are_image_members : (limit : ℕ) (file : List ℕ) → AreMembers (suc (suc (su
 are_image_members limit file =
     are_if _ (is_none (first_standing (head_tests 0 file))) (head_members (image_strings file (head_of file)) (head_of file) ++ laid_out_tables file)
     (members_then _ (head_members (image_strings file (head_of file)) (head_of file)) (laid_out_tables file) (are_head_members limit (image_strings file (head_of file)) (head_of file)) (are_laid_out limit file))
+
+are_refused_beyond : (limit : ℕ) (beyond : Option Beyond) (file : List ℕ) → AreMembers (suc (suc (suc (suc limit)))) (refused_beyond beyond file)
+are_refused_beyond limit None file = tt
+are_refused_beyond limit (Some b) file =
+    are_if _ (is_none (first_standing (head_tests 0 file))) (own_members (Some b) file (head_of file) (refused_imports file)) (are_own_members limit b file (head_of file) (refused_imports file))
 
 -- ---- lines
 -- a text is that of an object, and a line feed
@@ -121,7 +126,9 @@ image_line_is beyond name size file Done =
     (members_then _ (exports_members (exports_of i)) _ (are_exports_members _ (exports_of i))
     (members_then _ (imports_members (imports_of i)) (fixups_members (fixups_of i)) (are_imports_members _ (imports_of i)) (are_fixups_members _ (fixups_of i)))))
     (are_members_beyond _ beyond file (head_of file) i))
-image_line_is beyond name size file (Refused fault) = refused_is_line name file size fault (image_members file) (are_image_members _ file)
+image_line_is beyond name size file (Refused fault) =
+    refused_is_line name file size fault (image_members file ++ refused_beyond beyond file)
+    (members_then _ (image_members file) (refused_beyond beyond file) (are_image_members _ file) (are_refused_beyond _ beyond file))
 
 pub file_line_is : (beyond : Option Beyond) (name : List ℕ) (size : ℕ) (file : List ℕ) (outcome : Outcome) → IsLine (file_line beyond name size file outcome)
 file_line_is beyond name size file outcome = by (is_object (kind_of file))

@@ -1,6 +1,6 @@
 -- What a refused image shows of its file.
-use Rattle.std.proofs.Common.{◌≡◌, ℕ, List, ◌++◌, None, refl}
-use Rattle.std.specs.Prelude.{Option}
+use Rattle.std.proofs.Common.{◌≡◌, ℕ, List, [], ◌++◌, None, Some, refl, sym, ap, false, append-nil}
+use Rattle.std.specs.Prelude.{Option, is_none}
 use Rattle.pe_view.specs.Faults.{first_standing}
 use Rattle.coff_read.specs.ImageNames.{image_strings}
 use Rattle.pe_head.specs.Head.{head_of}
@@ -15,8 +15,11 @@ use Rattle.pe_tables.specs.Fixups.{fixups_of}
 use Rattle.pe_tables.specs.declared.fixups.Fixup.{Fixup}
 use Rattle.pe_image.specs.ImageOf.{unless}
 use Rattle.pe_image.specs.ImageTests.{relocation_tests}
-use Rattle.pe_json.specs.FileLine.{image_members}
+use Rattle.pe_head.specs.HeaderFaults.{head_tests}
+use Rattle.pe_json.specs.declared.beyond.Beyond.{Beyond}
+use Rattle.pe_json.specs.FileLine.{image_members, refused_beyond}
 use Rattle.pe_json.specs.ImageLine.{head_members}
+use Rattle.pe_json.specs.ImageRecords.{own_members}
 use Rattle.pe_json.specs.Refused.{exports_if, imports_if, fixups_if}
 use Rattle.pe_json.proofs.NoObject.{head_none}
 
@@ -27,3 +30,20 @@ pub laid_out : (file : List ℕ) (h : Headers) (i : LaidOut) (exports : Option E
     → head_members (image_strings file h) h ++ (exports_if exports ++ (imports_if imports ++ fixups_if fixups)) ≡ image_members file
 laid_out file h i exports imports fixups heads image sound is_exports is_imports is_fixups =
     rw (is_exports, is_imports, is_fixups, image, heads, head_none file sound, sound) refl
+
+-- and what its file says of itself
+pub own_laid_out : (beyond : Option Beyond) (file : List ℕ) (h : Headers) (imports : Option (List Import)) → h ≡ head_of file → first_standing (layout_tests 0 file) ≡ None
+    → imports ≡ unless (import_tests (image_of_file 0 file)) (imports_of (image_of_file 0 file)) → own_members beyond file h imports ≡ refused_beyond beyond file
+own_laid_out None file h imports heads sound is = refl
+own_laid_out (Some b) file h imports heads sound is = rw (heads, is, head_none file sound, sound) refl
+
+-- that of one that is not, of which only the headers are shown
+pub own_unlaid : (beyond : Option Beyond) (file : List ℕ) (h : Headers) → h ≡ head_of file → first_standing (head_tests 0 file) ≡ None → is_none (first_standing (layout_tests 0 file)) ≡ false
+    → head_members (image_strings file h) h ++ own_members beyond file h None ≡ image_members file ++ refused_beyond beyond file
+own_unlaid None file h heads none some = rw (heads, none, some) (ap (λ (ms : List (List ℕ)). ms ++ []) (sym (append-nil (head_members (image_strings file (head_of file)) (head_of file)))))
+own_unlaid (Some b) file h heads none some = rw (heads, none, some) (ap (λ (ms : List (List ℕ)). ms ++ own_members (Some b) file (head_of file) None) (sym (append-nil (head_members (image_strings file (head_of file)) (head_of file)))))
+
+-- that of one whose headers have a fault
+pub own_none : (beyond : Option Beyond) (file : List ℕ) → is_none (first_standing (head_tests 0 file)) ≡ false → image_members file ++ refused_beyond beyond file ≡ []
+own_none None file some = rw some refl
+own_none (Some b) file some = rw some refl

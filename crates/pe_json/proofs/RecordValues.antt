@@ -27,13 +27,14 @@ use Rattle.pe_records.specs.declared.tls_directory.TlsDirectory.{TlsDirectory}
 use Rattle.pe_view.specs.declared.fault.Fault.{Fault}
 use Rattle.pe_json.specs.BoundRows.{module_at, module_if, bound_numbers, bound_row, bound_records, bound_members_at, bound_members}
 use Rattle.pe_json.specs.DebugRows.{type_numbers, data_numbers, debug_row, debug_entries, debug_members_at, debug_members}
-use Rattle.pe_json.specs.FindingRows.{image_findings, finding_row, findings_in, findings_members}
+use Rattle.pe_json.specs.FindingRows.{trust_findings, image_findings, finding_row, findings_in, findings_members}
 use Rattle.pe_json.specs.FunctionRows.{function_count_in, count_member, function_row, arm_function_row, rows_in, list_member, listed_if, function_members_at, function_members}
-use Rattle.pe_tables.specs.Imports.{imports_of}
+use Rattle.pe_tables.specs.Imports.{Import, imports_of}
 use Rattle.pe_imphash.specs.ImportText.{import_hash_of}
-use Rattle.pe_json.specs.ImageRecords.{record_members, members_beyond}
+use Rattle.pe_json.specs.ImageRecords.{record_members, members_beyond, hash_if, own_members}
 use Rattle.pe_json.specs.JsonText.{number_if, wide_if, wide_string}
 use Rattle.pe_json.specs.PdbRows.{is_code_view, data_at, path_if, code_view_members, pdb_in, pdb_members}
+use Rattle.pe_json.specs.ResourceRows.{resource_members}
 use Rattle.pe_json.specs.StructureKeys.{load_keys, clr_keys}
 use Rattle.pe_json.specs.StructureRows.{structure_key, held_of, fields_of, keys_of, field_value, value_members, keyed_members, member_at, fields_if, structure_members_at, structure_members}
 use Rattle.pe_json.specs.TrustRows.{imphash_if, trust_members}
@@ -45,6 +46,7 @@ use Rattle.pe_json.proofs.Printed.{IsValue, AreValues, AreMembers, is_number, it
 use Rattle.pe_json.proofs.JsonMembers.{IsAsciiText, is_member, number_member, name_member, wide_member, wide_value, hex_value, members_then, flat_members, text_members, row_values}
 use Rattle.pe_json.proofs.FaultValues.{fault_value}
 use Rattle.pe_json.proofs.ImageValues.{are_ascii_names, named}
+use Rattle.pe_json.proofs.ResourceValues.{are_resource_members}
 use Rattle.pe_json.proofs.TrustValues.{are_imphash_if, are_trust_members}
 
 -- ---- the debug directory
@@ -260,5 +262,16 @@ pub are_members_beyond : (limit : ℕ) (beyond : Option Beyond) (file : List ℕ
 are_members_beyond limit None file h i = tt
 are_members_beyond limit (Some b) file h i =
     members_then _ (record_members b.functions h.machine i) _ (are_record_members _ b.functions h.machine i)
+    (members_then _ (resource_members i) _ (are_resource_members _ i)
     (members_then _ (trust_members b.digests file h) _ (are_trust_members limit b.digests file h)
-    (members_then _ (imphash_if (import_hash_of (imports_of i))) (findings_members file h i) (are_imphash_if _ (import_hash_of (imports_of i))) (are_findings_in _ (image_findings file h i))))
+    (members_then _ (imphash_if (import_hash_of (imports_of i))) (findings_members file h i) (are_imphash_if _ (import_hash_of (imports_of i))) (are_findings_in _ (image_findings file h i)))))
+
+are_hash_if : (limit : ℕ) (imports : Option (List Import)) → AreMembers (suc limit) (hash_if imports)
+unfolding hash_if
+are_hash_if limit None = tt
+are_hash_if limit (Some imports) = are_imphash_if _ (import_hash_of imports)
+
+pub are_own_members : (limit : ℕ) (b : Beyond) (file : List ℕ) (h : Headers) (imports : Option (List Import)) → AreMembers (suc (suc (suc (suc limit)))) (own_members (Some b) file h imports)
+are_own_members limit b file h imports =
+    members_then _ (trust_members b.digests file h) _ (are_trust_members limit b.digests file h)
+    (members_then _ (hash_if imports) (findings_in (trust_findings file h)) (are_hash_if _ imports) (are_findings_in _ (trust_findings file h)))

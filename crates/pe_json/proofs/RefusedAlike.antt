@@ -26,7 +26,7 @@ use Rattle.pe_reach.specs.Views.{LookAlike}
 use Rattle.pe_json.specs.ImageLine.{head_members}
 use Rattle.pe_json.specs.Refused.{kind_of_refused, refused_by}
 use Rattle.pe_json.specs.declared.beyond.Beyond.{Beyond}
-use Rattle.pe_json.specs.FileLine.{whole_tables, laid_out_tables, image_members, object_file_line, image_file_line, file_line}
+use Rattle.pe_json.specs.FileLine.{whole_tables, laid_out_tables, image_members, refused_beyond, object_file_line, image_file_line, file_line}
 use Rattle.pe_json.proofs.SameLines.{same_head}
 
 -- ---- what they are instead
@@ -130,9 +130,9 @@ line_of_image : (beyond : Option Beyond) (name : List ℕ) (size : ℕ) (f : Lis
 line_of_image beyond name size f fault is = ap (λ (kind : Option FileKind). if is_object kind then object_file_line name f (Refused fault) else image_file_line beyond name size f (Refused fault)) is
 
 pub same_refused_lines : (beyond : Option Beyond) (name f g : List ℕ) (size : ℕ) (fault : Fault) → LookAlike f g
-    → file_line beyond name size f (Refused fault) ≡ refused_by name (kind_of_refused fault g) fault (fault_detail f size fault) (image_members g)
+    → file_line beyond name size f (Refused fault) ≡ refused_by name (kind_of_refused fault g) fault (fault_detail f size fault) (image_members g ++ refused_beyond beyond f)
 same_refused_lines beyond name f g size fault look =
-    line_of_image beyond name size f fault look.kind_f ∙ ap₂ (λ (kind : Option (List ℕ)) (members : List (List ℕ)). refused_by name kind fault (fault_detail f size fault) members) (same_kind f g fault look) (same_members f g look)
+    line_of_image beyond name size f fault look.kind_f ∙ ap₂ (λ (kind : Option (List ℕ)) (members : List (List ℕ)). refused_by name kind fault (fault_detail f size fault) (members ++ refused_beyond beyond f)) (same_kind f g fault look) (same_members f g look)
 
 -- the numbers that the rule of a fault at an RVA compares
 pub same_values : (f g : List ℕ) (size : ℕ) (fault : Fault) (rva : ℕ) → LookAlike f g → fault.place ≡ Rva rva → fault_detail f size fault ≡ fault_detail g size fault

@@ -1,6 +1,6 @@
 -- The line of a file: what `json` tells of an object or an image without a fault, or of a refused file. `beyond` asks for what is told of
 -- an image beyond its profile.
-use Rattle.std.specs.Prelude.{ℕ, List, [], ◌++◌, length, Option, is_none, if◌then◌else◌}
+use Rattle.std.specs.Prelude.{ℕ, List, [], ◌++◌, length, Option, None, Some, is_none, if◌then◌else◌}
 use Rattle.pe_view.specs.Faults.{first_standing}
 use Rattle.pe_head.specs.Head.{head_of}
 use Rattle.pe_head.specs.HeaderFaults.{head_tests}
@@ -9,7 +9,7 @@ use Rattle.pe_layout.specs.SectionFaults.{layout_tests}
 use Rattle.pe_tables.specs.ExportFaults.{export_tests}
 use Rattle.pe_tables.specs.Exports.{exports_of}
 use Rattle.pe_tables.specs.ImportFaults.{import_tests}
-use Rattle.pe_tables.specs.Imports.{imports_of}
+use Rattle.pe_tables.specs.Imports.{Import, imports_of}
 use Rattle.pe_tables.specs.Fixups.{fixups_of}
 use Rattle.pe_image.specs.ImageOf.{unless}
 use Rattle.pe_image.specs.ImageTests.{relocation_tests}
@@ -17,7 +17,7 @@ use Rattle.coff_read.specs.ImageNames.{image_strings}
 use Rattle.pe_text.specs.FileKind.{kind_of, is_object}
 use Rattle.pe_text.specs.declared.outcome.Outcome.{Outcome}
 use Rattle.pe_text.specs.declared.outcome.Outcome.TheVariants.{Done, Refused}
-use Rattle.pe_json.specs.ImageRecords.{members_beyond}
+use Rattle.pe_json.specs.ImageRecords.{members_beyond, own_members}
 use Rattle.pe_json.specs.ImageLine.{image_line, head_members}
 use Rattle.pe_json.specs.declared.beyond.Beyond.{Beyond}
 use Rattle.pe_json.specs.ObjectLine.{object_line}
@@ -49,6 +49,15 @@ abbrev pub image_members : List ℕ → List (List ℕ)
 image_members file =
     if is_none (first_standing (head_tests 0 file)) then head_members (image_strings file (head_of file)) (head_of file) ++ laid_out_tables file else []
 
+-- its imports, if it is laid out and they have no fault
+abbrev pub refused_imports : List ℕ → Option (List Import)
+refused_imports file = if is_none (first_standing (layout_tests 0 file)) then unless (import_tests (image_of_file 0 file)) (imports_of (image_of_file 0 file)) else None
+
+-- what its file says of itself, if that is asked for and the headers have no fault
+abbrev pub refused_beyond : Option Beyond → List ℕ → List (List ℕ)
+refused_beyond None file = []
+refused_beyond (Some b) file = if is_none (first_standing (head_tests 0 file)) then own_members (Some b) file (head_of file) (refused_imports file) else []
+
 -- ---- a file
 -- the line of an object, by the outcome: if it is refused, nothing but the fault
 abbrev pub object_file_line : List ℕ → List ℕ → Outcome → List ℕ
@@ -58,7 +67,7 @@ object_file_line name file (Refused fault) = refused_line name file (length file
 -- the line of an image's file of a size of which these bytes were read
 abbrev pub image_file_line : Option Beyond → List ℕ → ℕ → List ℕ → Outcome → List ℕ
 image_file_line beyond name size file Done = accepted_image beyond name file (image_of_file 0 file)
-image_file_line beyond name size file (Refused fault) = refused_line name file size fault (image_members file)
+image_file_line beyond name size file (Refused fault) = refused_line name file size fault (image_members file ++ refused_beyond beyond file)
 
 -- the line of a file
 abbrev pub file_line : Option Beyond → List ℕ → ℕ → List ℕ → Outcome → List ℕ

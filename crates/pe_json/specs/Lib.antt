@@ -25,6 +25,7 @@ pub mod Listed
 pub mod ObjectLine
 pub mod PdbRows
 pub mod Refused
+pub mod ResourceRows
 pub mod RichRows
 pub mod Sections
 pub mod Strings
@@ -33,4 +34,6 @@ pub mod StructureRows
 pub mod TableRows
 pub mod TlsRows
 pub mod TrustRows
+pub mod Utf16
 pub mod Value
+pub mod VersionRows

@@ -1,13 +1,15 @@
 //! `json`: the engine of `petool json`, which checks a file as an image or an object and writes its line.
 
-ghost use Rattle.std.specs.Prelude.{◌≡◌, ◌-◌, ◌^◌, ◌<◌, ◌≤◌, ◌↔◌, length, None, Some, IfOk, IfSome, OnErr, IsErrOf};
+ghost use Rattle.std.specs.Prelude.{◌≡◌, ◌++◌, ◌-◌, ◌^◌, ◌<◌, ◌≤◌, ◌↔◌, length, None, Some, IfOk, IfSome, OnErr, IsErrOf};
 ghost use Rattle.coff_read.specs.ObjectFaults.{object_tests};
 ghost use Rattle.pe_image.specs.ImageOf.{IsImageOf};
 ghost use Rattle.pe_image.specs.ImageTests.{image_tests};
 ghost use Rattle.pe_json.specs.ExportRows.{AreNamesOf};
-ghost use Rattle.pe_json.specs.FileLine.{image_members, image_file_line, object_file_line, file_line};
+ghost use Rattle.pe_json.specs.FileLine.{image_members, refused_beyond, image_file_line, object_file_line, file_line};
+ghost use Rattle.pe_json.specs.ImageRecords.{own_findings};
 ghost use Rattle.pe_json.specs.JsonReport.{file_tests, IsLine, IsLineOf, IsUnreadLine, RanSized};
 ghost use Rattle.pe_json.specs.Refused.{refused_line};
+ghost use Rattle.pe_head.specs.Head.{head_of};
 ghost use Rattle.pe_layout.specs.Layout.{IsLayoutOf};
 ghost use Rattle.pe_layout.specs.SectionFaults.{layout_tests};
 ghost use Rattle.pe_reach.specs.Views.{seen_of, told_of};
@@ -18,15 +20,16 @@ ghost use Rattle.pe_text.specs.TextWriter.{IsReady, Adds};
 ghost use Rattle.pe_view.specs.Faults.{first_standing};
 
 use crate::beyond::Beyond;
-use crate::findings::findings_of;
+use crate::findings::{findings_of, own_findings};
 use crate::image::{Content, write_image, write_plain_image};
 use crate::object::write_object;
-use crate::refused::{refuse, refuse_laid_out, refuse_unlaid};
+use crate::refused::{RefusedImage, refuse, refuse_laid_out, refuse_unlaid};
 use coff_read::ObjectFile;
 use pe_image::Image;
 use pe_layout::Layout;
 use pe_reach::laws::faults_agree;
 use pe_reach::{ViewFile, read_rest, read_view, read_whole_tables};
+use pe_resources::leaves;
 use pe_tables::{Exports, NamesByOrdinal, TableError};
 use pe_text::{Outcome, Sink, Source, TextWriter, ToolError, read_whole};
 use pe_view::Fault;
@@ -67,36 +70,41 @@ fn names_of<A: Allocator + Copy>(
 fn write_laid_out<A: Allocator + Copy, W: Sink>(
     alloc: A,
     text: &mut TextWriter<W>,
-    name: &[u8],
-    file: ViewFile,
+    image: RefusedImage,
     layout: &Layout,
-    fault: &Fault,
 ) -> Result<(), AllocError>
     requires ready { IsReady W.failures text.old }
-    requires layout { IsLayoutOf (seen_of file) 0 layout.now }
-    requires sound { first_standing (layout_tests 0 (seen_of file)) ≡ None }
+    requires small { length (seen_of image.file) ≤ 2 ^ 32 }
+    requires headers { image.headers.now ≡ head_of (seen_of image.file) }
+    requires found { image.findings.now ≡ own_findings image.beyond (seen_of image.file) image.headers.now }
+    requires layout { IsLayoutOf (seen_of image.file) 0 layout.now }
+    requires sound { first_standing (layout_tests 0 (seen_of image.file)) ≡ None }
     ensures adds { IfOk result (λ _. Adds W.taken W.failures text.old text.new
-        (refused_line name.now (seen_of file.entry) (told_of file.entry) fault.now (image_members (seen_of file.entry)))) }
+        (refused_line image.entry.name.now (seen_of image.entry.file) (told_of image.entry.file) image.entry.fault.now
+        (image_members (seen_of image.entry.file) ++ refused_beyond image.entry.beyond (seen_of image.entry.file)))) }
     ensures same { text.new.writer.ghost_name ≡ text.old.writer.ghost_name }
     ensures unwritten { OnErr result (text.new.writer.now ≡ text.old.writer.now) }
 {
     let tables = read_whole_tables(alloc, layout)?;
     let names = names_of(alloc, &tables.exports)?;
-    refuse_laid_out(text, name, file, fault, layout.headers(), &tables, &names);
+    refuse_laid_out(text, image, &tables, &names);
     Ok(())
 }
 
-/// Adds the line of a refused image: its fault, and what has none.
+/// Adds the line of a refused image: its fault, what has none, and what its file says of itself if that is asked for. All memory is
+/// taken before its first byte.
 fn write_refused<A: Allocator + Copy, W: Sink>(
     alloc: A,
     text: &mut TextWriter<W>,
     name: &[u8],
+    beyond: Option<Beyond>,
     file: ViewFile,
     fault: &Fault,
 ) -> Result<(), AllocError>
     requires { IsReady W.failures text.old }
     ensures adds { IfOk result (λ _. Adds W.taken W.failures text.old text.new
-        (refused_line name.now (seen_of file.entry) (told_of file.entry) fault.now (image_members (seen_of file.entry)))) }
+        (refused_line name.now (seen_of file.entry) (told_of file.entry) fault.now
+        (image_members (seen_of file.entry) ++ refused_beyond beyond (seen_of file.entry)))) }
     ensures same { text.new.writer.ghost_name ≡ text.old.writer.ghost_name }
     ensures unwritten { OnErr result (text.new.writer.now ≡ text.old.writer.now) }
     ensures memory { OnErr result (0 < length (seen_of file.entry)) }
@@ -105,10 +113,19 @@ fn write_refused<A: Allocator + Copy, W: Sink>(
         refuse(text, name, file, fault);
         return Ok(());
     };
+    let findings = own_findings(alloc, beyond, file.beginning(), &headers)?;
+    let image = RefusedImage {
+        name,
+        file,
+        fault,
+        headers: &headers,
+        beyond,
+        findings: &findings,
+    };
     match file.lay_out() {
-        Ok(layout) => write_laid_out(alloc, text, name, file, &layout, fault),
+        Ok(layout) => write_laid_out(alloc, text, image, &layout),
         Err(_) => {
-            refuse_unlaid(text, name, file, fault, &headers);
+            refuse_unlaid(text, image);
             Ok(())
         }
     }
@@ -147,8 +164,18 @@ fn write_accepted<A: Allocator + Copy, W: Sink>(
         return Ok(());
     };
     let bytes = file.beginning();
-    let found = findings_of(alloc, &image.layout, bytes)?;
-    write_image(text, name, content, beyond, bytes, &image.layout, &found);
+    let tree = leaves(alloc, &image.layout)?;
+    let found = findings_of(alloc, &image.layout, bytes, tree.findings.as_slice())?;
+    write_image(
+        text,
+        name,
+        content,
+        beyond,
+        bytes,
+        &image.layout,
+        tree.leaves.as_slice(),
+        found.as_slice(),
+    );
     Ok(())
 }
 
@@ -174,7 +201,7 @@ fn write_image_line<A: Allocator + Copy, W: Sink>(
             Ok(Outcome::Done)
         }
         Err(TableError::Fault(fault)) => {
-            write_refused(alloc, text, name, file, &fault)?;
+            write_refused(alloc, text, name, beyond, file, &fault)?;
             Ok(Outcome::Refused(fault))
         }
         Err(TableError::Memory) => Err(AllocError),
@@ -248,7 +275,7 @@ fn print_refused<W: Sink>(
 
 /// Writes one JSON object and a line feed for the image or object whose file comes from the reader: its content; or its first
 /// fault, and of an image what has no fault, as [`crate`] says. `name` is that of the file in the line. With `beyond` the line of an image
-/// without a fault has what that asks for too.
+/// has what that asks for too; of a refused one whose headers have no fault, what its file says of itself.
 ///
 /// A file that begins like a COFF object is tested for the object faults of docs/FAULTS.md, and any other for the image faults.
 /// `Done` means that it has none of these, and `Refused` has the first that it has.

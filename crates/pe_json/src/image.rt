@@ -6,6 +6,7 @@ ghost use Rattle.coff_read.specs.ImageNames.{table_of};
 ghost use Rattle.pe_tables.specs.ExportsView.{exports_view, by_ordinal_view};
 ghost use Rattle.pe_tables.specs.Imports.{imports_of};
 ghost use Rattle.pe_tables.specs.ImportView.{import_view};
+ghost use Rattle.pe_resources.specs.Walk.{leaves_of};
 ghost use Rattle.pe_text.specs.TextWriter.{IsReady, Adds};
 ghost use Rattle.pe_json.specs.ExportRows.{AreNamesOf};
 ghost use Rattle.pe_json.specs.FindingRows.{image_findings};
@@ -30,6 +31,7 @@ use crate::tables::{write_fixups, write_imports};
 use coff_read::{FileHeader, ImageStrings};
 use pe_head::{Headers, Magic};
 use pe_layout::Layout;
+use pe_resources::Leaf;
 use pe_tables::{Exports, Fixup, Import, NamesByOrdinal};
 use pe_text::{Sink, TextWriter};
 use pe_view::{Fault, View};
@@ -161,8 +163,8 @@ pub(crate) fn write_plain_image<A: Allocator + Copy, W: Sink>(
     text.text(b"\n");
 }
 
-/// Adds the line of an image without a fault, whose file has this name, with what is told beyond its profile, given its whole file and
-/// its findings.
+/// Adds the line of an image without a fault, whose file has this name, with what is told beyond its profile, given its whole file, the
+/// leaves of its resource tree and its findings.
 pub(crate) fn write_image<A: Allocator + Copy, W: Sink>(
     text: &mut TextWriter<W>,
     name: &[u8],
@@ -170,12 +172,14 @@ pub(crate) fn write_image<A: Allocator + Copy, W: Sink>(
     beyond: Beyond,
     file: View,
     layout: &Layout,
+    leaves: &[Leaf],
     findings: &[Fault],
 )
     requires ready { IsReady W.failures text.old }
     requires own { AreNamesOf (exports_view image.exports.now) (by_ordinal_view image.names.now) }
     requires small { size_of file ≤ 2 ^ 32 }
     requires imported { map import_view image.imports.now ≡ imports_of (image_of layout.now) }
+    requires read { leaves.now ≡ leaves_of (image_of layout.now) }
     requires found { findings.now ≡ image_findings (bytes_of file) (headers_of layout.now) (image_of layout.now) }
     ensures { Adds W.taken W.failures text.old text.new
         (image_line name.now (option_map table_of image.entry.strings) image.entry.headers.now (exports_view image.entry.exports.now)
@@ -183,7 +187,7 @@ pub(crate) fn write_image<A: Allocator + Copy, W: Sink>(
 {
     begin(text, name, true);
     write_profile(text, image);
-    write_beyond(text, beyond, file, layout, image.imports, findings);
+    write_beyond(text, beyond, file, layout, image.imports, leaves, findings);
     text.text(b"}");
     text.text(b"\n");
 }

@@ -6,7 +6,7 @@ ghost use Rattle.json.specs.Print.{IsNumber};
 ghost use Rattle.json.specs.Tree.{HasNumbers};
 ghost use Rattle.pe_detail.specs.FaultDetail.{fault_detail};
 ghost use Rattle.pe_json.specs.declared.beyond.Beyond.{Beyond};
-ghost use Rattle.pe_json.specs.FileLine.{file_line, image_members};
+ghost use Rattle.pe_json.specs.FileLine.{file_line, image_members, refused_beyond};
 ghost use Rattle.pe_json.specs.Refused.{kind_of_refused, refused_by, refused_line};
 ghost use Rattle.pe_json.specs.Value.{IsTextOf};
 ghost use Rattle.pe_reach.specs.Views.{LookAlike};
@@ -32,11 +32,12 @@ pub fn json_is_read_back()
     ensures value { (value : Json) (text : List ℕ) → IsTextOf value text → HasNumbers value → document text ≡ Some value }
 {}
 
-/// If views see the same headers, sections and layout of two images, and one fault refuses both, their lines differ at most in the
-/// numbers that the fault's rule compares; and not in these if the fault is at an RVA, as 16 to 38 are.
+/// If views see the same headers, sections and layout of two images, and one fault refuses both, their lines differ at most in what
+/// their files say of themselves, if that is asked for, and in the numbers that the fault's rule compares; and not in these if the fault
+/// is at an RVA, as 16 to 38 are.
 pub fn refused_lines_agree()
     ensures lines { (beyond : Option Beyond) (name f g : List ℕ) (size : ℕ) (fault : Fault) → LookAlike f g
-        → file_line beyond name size f (Refused fault) ≡ refused_by name (kind_of_refused fault g) fault (fault_detail f size fault) (image_members g) }
+        → file_line beyond name size f (Refused fault) ≡ refused_by name (kind_of_refused fault g) fault (fault_detail f size fault) (image_members g ++ refused_beyond beyond f) }
     ensures values { (f g : List ℕ) (size : ℕ) (fault : Fault) (rva : ℕ) → LookAlike f g → fault.place ≡ Rva rva
         → fault_detail f size fault ≡ fault_detail g size fault }
 {}

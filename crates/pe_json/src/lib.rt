@@ -41,6 +41,7 @@ mod parts;
 mod pdb;
 mod records;
 mod refused;
+mod resources;
 mod rich;
 mod rows;
 mod sections;
@@ -51,6 +52,8 @@ mod symbols;
 mod tables;
 mod tls;
 mod trust;
+mod utf16;
+mod version;
 
 pub use beyond::Beyond;
 pub use engine::{json, json_sized};

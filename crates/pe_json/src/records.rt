@@ -4,11 +4,13 @@ ghost use Rattle.std.specs.Prelude.{◌≡◌, ◌^◌, ◌≤◌, map};
 ghost use Rattle.pe_tables.specs.Imports.{imports_of};
 ghost use Rattle.pe_tables.specs.ImportView.{import_view};
 ghost use Rattle.pe_layout.specs.Layout.{headers_of, image_of};
+ghost use Rattle.pe_resources.specs.Walk.{leaves_of};
 ghost use Rattle.pe_text.specs.TextWriter.{IsReady, Adds};
 ghost use Rattle.pe_view.specs.View.{bytes_of, size_of};
 ghost use Rattle.pe_json.specs.FindingRows.{image_findings};
 ghost use Rattle.pe_json.specs.ImageRecords.{beyond_members, record_members};
 ghost use Rattle.pe_json.specs.Listed.{more};
+ghost use Rattle.pe_json.specs.ResourceRows.{resource_members};
 
 use crate::beyond::Beyond;
 use crate::bound_imports::write_bound_imports;
@@ -16,10 +18,13 @@ use crate::debug::write_debug;
 use crate::findings::write_findings;
 use crate::functions::write_functions;
 use crate::pdb::write_pdb;
+use crate::resources::{write_leaves, write_manifest};
 use crate::structure::{StructureKind, write_structure};
 use crate::tls::write_tls;
 use crate::trust::{write_import_hash, write_trust};
+use crate::version::write_version;
 use pe_layout::Layout;
+use pe_resources::Leaf;
 use pe_tables::Import;
 use pe_text::{Sink, TextWriter};
 use pe_view::{Fault, View};
@@ -38,22 +43,36 @@ fn write_records<W: Sink>(text: &mut TextWriter<W>, functions: bool, layout: &La
     write_structure(text, StructureKind::ClrHeader, layout);
 }
 
-/// Adds what is told of an image beyond its profile, given its whole file, its imports and its findings.
+/// Adds what is told of an image's resources, given the leaves of their tree.
+fn write_resources<W: Sink>(text: &mut TextWriter<W>, layout: &Layout, leaves: &[Leaf])
+    requires ready { IsReady W.failures text.old }
+    requires read { leaves.now ≡ leaves_of (image_of layout.now) }
+    ensures { Adds W.taken W.failures text.old text.new (more (resource_members (image_of layout.now))) }
+{
+    write_leaves(text, layout, leaves);
+    write_version(text, layout);
+    write_manifest(text, layout);
+}
+
+/// Adds what is told of an image beyond its profile, given its whole file, its imports, the leaves of its resource tree and its findings.
 pub(crate) fn write_beyond<W: Sink>(
     text: &mut TextWriter<W>,
     beyond: Beyond,
     file: View,
     layout: &Layout,
     imports: &[Import],
+    leaves: &[Leaf],
     findings: &[Fault],
 )
     requires ready { IsReady W.failures text.old }
     requires small { size_of file ≤ 2 ^ 32 }
     requires imported { map import_view imports.now ≡ imports_of (image_of layout.now) }
+    requires read { leaves.now ≡ leaves_of (image_of layout.now) }
     requires found { findings.now ≡ image_findings (bytes_of file) (headers_of layout.now) (image_of layout.now) }
     ensures { Adds W.taken W.failures text.old text.new (more (beyond_members beyond (bytes_of file.entry) (headers_of layout.now) (image_of layout.now))) }
 {
     write_records(text, beyond.functions, layout);
+    write_resources(text, layout, leaves);
     write_trust(text, beyond.digests, file, layout.headers());
     write_import_hash(text, imports);
     write_findings(text, findings);

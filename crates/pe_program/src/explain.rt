@@ -320,7 +320,7 @@ static EXPLAINED: [Explained; 69] = [
 ];
 
 /// All findings, by number.
-static FINDINGS_EXPLAINED: [Explained; 33] = [
+static FINDINGS_EXPLAINED: [Explained; 46] = [
     (
         101,
         Some(
@@ -464,6 +464,87 @@ static FINDINGS_EXPLAINED: [Explained; 33] = [
         152,
         Some("The name is at OffsetModuleName from the beginning of the table."),
         "a damaged table",
+    ),
+    (
+        181,
+        Some(
+            "A directory begins with 16 bytes, which hold the number of its entries. No resource is read.",
+        ),
+        "an image that was packed, or a damaged directory",
+    ),
+    (
+        182,
+        Some(
+            "All directories are in the run of the root: in the headers or in the raw data of one section. The entries that are entirely in it are read.",
+        ),
+        "a damaged resource tree, or an image that was cut off in it",
+    ),
+    (
+        183,
+        Some(
+            "A text is in the run of the root: two bytes say how many UTF-16 units follow. What the entry leads to is read.",
+        ),
+        "a damaged resource tree",
+    ),
+    (
+        184,
+        Some("A data entry has 16 bytes, in the run of the root. It is not read."),
+        "a damaged resource tree",
+    ),
+    (
+        185,
+        Some(
+            "It is not read. So a tree that leads back to itself ends, and no directory is read twice.",
+        ),
+        "files made to exhaust a reader, or to hide resources from it",
+    ),
+    (
+        186,
+        Some(
+            "The levels are the type, the name and the language. It is read as a resource that lacks the others.",
+        ),
+        "a resource tree that was written by hand",
+    ),
+    (
+        187,
+        Some("The levels are the type, the name and the language. It is not read."),
+        "files made to hide resources, or a damaged resource tree",
+    ),
+    (
+        188,
+        Some("The data entry has the RVA of its data and how many bytes it has."),
+        "an image of which resources were taken out, or a damaged resource tree",
+    ),
+    (
+        189,
+        Some(
+            "A loader that searches the entries by halves misses some of them. Texts are compared by their UTF-16 units.",
+        ),
+        "an image whose resources were changed by a tool that does not sort them",
+    ),
+    (
+        211,
+        Some("Without that key nothing of it is read."),
+        "a damaged resource, or data of another kind with the type of version information",
+    ),
+    (
+        212,
+        Some(
+            "It is not read, nor what comes after it. Of the first block what the data has is read.",
+        ),
+        "a resource that was cut off, or whose texts were changed by a tool that does not count their lengths",
+    ),
+    (
+        213,
+        Some("The key is read up to the end of the block, which then has no value."),
+        "a damaged resource",
+    ),
+    (
+        214,
+        Some(
+            "A block begins with three numbers of two bytes. It is not read, nor what comes after it in the block that it is in.",
+        ),
+        "files made to exhaust a reader, or a damaged resource",
     ),
     (
         221,

@@ -6,6 +6,7 @@ pub mod Looks
 pub mod Marks
 pub mod RawEnds
 pub mod SectionNames
+pub mod ShortTable
 pub mod Sizes
 pub mod StringTable
 pub mod PartBytes

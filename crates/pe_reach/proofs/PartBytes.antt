@@ -18,7 +18,7 @@ use Rattle.pe_layout.specs.Piece.{end_of}
 use Rattle.pe_layout.specs.SectionFaults.{layout_tests, placing_tests, section_tests, sections_tests}
 use Rattle.pe_parts.specs.Packed.{moved, IsHeld, AreHeld}
 use Rattle.pe_reach.specs.Reach.{HaveBoth, headers_end}
-use Rattle.pe_reach.specs.Parts.{Part, HasPart}
+use Rattle.pe_reach.specs.Parts.{Part, HasPart, Stand}
 use Rattle.pe_reach.specs.PartsRead.{EndsEarly, can_begin, has_headers, IsRawInside, place_of, next_place, packed_from, packed_end}
 use Rattle.pe_reach.proofs.Headers.{headers_agree}
 use Rattle.pe_reach.proofs.Images.{lower, agree_of_both, head_first_agrees}
@@ -38,10 +38,6 @@ all_rest P xs ys all = λ k d lt. subst P (get_or-append-add xs ys k d) (all (le
 -- a list that begins as another one does begins so with fewer elements, too
 pub front_on : (less n : ℕ) (old new first : List ℕ) → less ≤ n → take n new ≡ old → take less old ≡ first → take less new ≡ first
 front_on less n old new first le same is = sym (take-take less n new le) ∙ ap (take less) same ∙ is
-
--- the bytes of a file from an offset on that stand at a place of a buffer, so many of them
-abbrev pub Stand : (file bytes : List ℕ) (offset start count : ℕ) → Type 0
-Stand file bytes offset start count = (k : ℕ) → k < count → byte_of bytes (start + k) ≡ byte_of file (offset + k)
 
 -- a call put more of them behind those, and the bytes in front of these stay
 module _ (old room after more : List ℕ) (size start filled n : ℕ) (within : start + filled ≤ length old) (fits : n ≤ length room) (holds : start + filled + n ≤ size) where

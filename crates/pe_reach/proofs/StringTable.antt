@@ -12,7 +12,8 @@ use Rattle.pe_reach.specs.PartNames.{with_strings}
 use Rattle.pe_reach.specs.PartsRead.{AreOf, AddNames}
 use Rattle.pe_reach.specs.Views.{names_under}
 use Rattle.pe_reach.specs.declared.parts_reading.Parts.{Parts}
-use Rattle.pe_reach.proofs.PartBytes.{Stand, all_held_on}
+use Rattle.pe_reach.specs.Parts.{Stand}
+use Rattle.pe_reach.proofs.PartBytes.{all_held_on}
 
 -- a number whose bytes stand at another place
 pub num_stands : (f g : ℕ → ℕ) (p q n : ℕ) → ((k : ℕ) → k < n → f (p + k) ≡ g (q + k)) → num f p n ≡ num g q n
@@ -29,7 +30,7 @@ num_stands f g p q (suc n) same =
 room : (n offset len : ℕ) → offset + len ≤ n → min len (n - offset) ≡ len
 room n offset len le = omega arith
 
-part_len : (bytes : List ℕ) (offset len : ℕ) → offset + len ≤ length bytes → length (part bytes offset len) ≡ len
+pub part_len : (bytes : List ℕ) (offset len : ℕ) → offset + len ≤ length bytes → length (part bytes offset len) ≡ len
 part_len bytes offset len le = length-take len (drop offset bytes) ∙ ap (min len) (length-drop offset bytes) ∙ room (length bytes) offset len le
 
 -- the same of any bytes
@@ -44,7 +45,7 @@ part_stands file bytes offset start len stand fits held =
     ∙ sym (get_or-take len (drop offset file) k 0 small ∙ get_or-drop offset file k 0))
 
 -- the string table, if it is inside the file
-some_table : (file : List ℕ) (h : Headers) → 0 < h.pointer_to_symbol_table → strings_start h + 4 ≤ length file → strings_start h + strings_size file h ≤ length file
+pub some_table : (file : List ℕ) (h : Headers) → 0 < h.pointer_to_symbol_table → strings_start h + 4 ≤ length file → strings_start h + strings_size file h ≤ length file
     → image_strings file h ≡ Some (part file (strings_start h) (strings_size file h))
 some_table file h some first last =
     rw (ne_eqb h.pointer_to_symbol_table 0 (λ e. omega (arith, e, some)), le-leb (strings_start h + 4) (length file) first, le-leb (strings_start h + strings_size file h) (length file) last) refl

@@ -15,6 +15,10 @@ HasPart file part = (k : ℕ) → k < length part.bytes → byte_of file (part.o
 abbrev pub HasParts : List ℕ → List Part → Type 0
 HasParts file parts = All (HasPart file) parts
 
+-- the bytes of a file from an offset on are at a place of other bytes, so many of them
+abbrev pub Stand : (file bytes : List ℕ) (offset start count : ℕ) → Type 0
+Stand file bytes offset start count = (k : ℕ) → k < count → byte_of bytes (start + k) ≡ byte_of file (offset + k)
+
 -- the parts grow by the one at an offset that a call returns, and stay as they are if the call fails
 abbrev pub GrowsByPart : ℕ → List Part → List Part → Result ℕ Failed → List ℕ → Type 0
 GrowsByPart offset before now result bytes = MatchResult result

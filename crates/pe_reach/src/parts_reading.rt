@@ -8,7 +8,7 @@ ghost use Rattle.pe_head.specs.Section.{rawlen};
 ghost use Rattle.pe_layout.specs.Piece.{holds};
 ghost use Rattle.pe_layout.specs.SectionFaults.{layout_tests};
 ghost use Rattle.pe_parts.specs.Packed.{IsHeld, AreHeld};
-ghost use Rattle.pe_reach.specs.Parts.{Part, HasPart, HasParts};
+ghost use Rattle.pe_reach.specs.Parts.{Part, HasPart, HasParts, Stand};
 ghost use Rattle.pe_reach.specs.PartsRead.{FailsToRead, can_begin, has_headers, begins_in, is_wanted, is_packed, place_of, next_place, packed_from, packed_end, packed_size, packed_headers};
 ghost use Rattle.pe_reach.specs.PartsRead.{AreOf, EndsEarly, IsRawInside, AreNotRead};
 
@@ -54,7 +54,7 @@ pub(crate) fn read_range<A: Allocator, R: PartSource>(
     ensures reads { (read : List Part) × (R.parts reader.new ≡ R.parts reader.old ++ read) × MatchResult result
         (λ has_all. (R.failures reader.new ≡ R.failures reader.old) × (IsTrue has_all
         → (vec_len bytes.new ≡ vec_len bytes.old + count) × (take (vec_len bytes.old) bytes.new.items ≡ bytes.old.items)
-        × ((file : List ℕ) → HasParts file read → (k : ℕ) → k < count → byte_of bytes.new.items (vec_len bytes.old + k) ≡ byte_of file (offset + k))))
+        × ((file : List ℕ) → HasParts file read → Stand file bytes.new.items offset (vec_len bytes.old) count)))
         (FailsToRead (R.failures reader.old) (R.failures reader.new)) }
 {
     let place = u64::from(offset);

@@ -53,6 +53,7 @@ fn directory_of(finding: &Fault) -> Option<usize> {
         131..=140 => Some(directory_index::TLS),
         141..=150 => Some(directory_index::LOAD_CONFIGURATION),
         151..=160 => Some(directory_index::BOUND_IMPORT),
+        181..=220 => Some(directory_index::RESOURCE),
         221..=240 => Some(directory_index::CERTIFICATE),
         251..=260 => Some(directory_index::CLR),
         _ => None,

@@ -1,4 +1,4 @@
-//! `Pdb`: which PDB file belongs to an image, and the key by which symbol servers have it.
+//! `Pdb`: which PDB file belongs to an image, and the key by which symbol servers have it; and what an image is by its own words.
 
 ghost use Rattle.pe_text.specs.TextWriter.{IsReady};
 ghost use Rattle.pe_page.specs.Page.{AddsSome};
@@ -7,6 +7,7 @@ use arrayvec::ArrayVec;
 use pe_page::Cell::{self, Plain};
 use pe_page::{write_cells, write_plain_heading};
 use pe_records::{CodeView, DebugEntry, Pdb20, Pdb70, code_view, debug_type};
+use pe_resource_pages::write_version_identity;
 use pe_text::Part::{Decimal, Hex, Hex2, Text};
 use pe_text::{ShowOptions, Sink, TextWriter, write_parts};
 use pe_view::View;
@@ -165,9 +166,9 @@ fn write_signature<W: Sink>(text: &mut TextWriter<W>, signature: &Signature)
     }
 }
 
-/// Adds the part of a page on the PDB file of an image: its path, what tells it from others of its name, and the key by which symbol
-/// servers have it.
-pub fn write_identity<W: Sink>(text: &mut TextWriter<W>, options: &ShowOptions, pdb: Option<Pdb>)
+/// Adds the rows of an identity that the PDB file of an image tells, if it has one: its path, what tells it from others of its name,
+/// and the key by which symbol servers have it.
+fn write_pdb<W: Sink>(text: &mut TextWriter<W>, pdb: Option<Pdb>)
     requires { IsReady W.failures text.old }
     ensures { AddsSome W.taken W.failures text.old text.new }
 {
@@ -175,7 +176,6 @@ pub fn write_identity<W: Sink>(text: &mut TextWriter<W>, options: &ShowOptions, 
         return;
     };
     let digits = signature_digits(pdb.signature);
-    write_plain_heading(text, options, b"Identity");
     write_cells(
         text,
         &[
@@ -203,4 +203,32 @@ pub fn write_identity<W: Sink>(text: &mut TextWriter<W>, options: &ShowOptions, 
             Text(b"\n"),
         ],
     );
+}
+
+/// Adds the rows of an identity that the version information of an image tells, if it has some.
+fn write_version<W: Sink>(text: &mut TextWriter<W>, version: Option<&[u8]>)
+    requires { IsReady W.failures text.old }
+    ensures { AddsSome W.taken W.failures text.old text.new }
+{
+    if let Some(version) = version {
+        write_version_identity(text, version);
+    }
+}
+
+/// Adds the part of a page on what an image is: by its version information, and by its PDB file, if it has one of these.
+pub fn write_identity<W: Sink>(
+    text: &mut TextWriter<W>,
+    options: &ShowOptions,
+    version: Option<&[u8]>,
+    pdb: Option<Pdb>,
+)
+    requires { IsReady W.failures text.old }
+    ensures { AddsSome W.taken W.failures text.old text.new }
+{
+    if version.is_none() && pdb.is_none() {
+        return;
+    }
+    write_plain_heading(text, options, b"Identity");
+    write_version(text, version);
+    write_pdb(text, pdb);
 }

@@ -14,6 +14,7 @@ use pe_layout::Layout;
 use pe_page::Cell::{self, Plain};
 use pe_page::{plural, write_cells};
 use pe_records::{BoundImports, Structure, clr_field, clr_header};
+use pe_resource_pages::write_resource_summary;
 use pe_text::Part::{Decimal, Text};
 use pe_text::{Sink, TextWriter, write_parts};
 
@@ -70,6 +71,7 @@ fn write_known<W: Sink>(text: &mut TextWriter<W>, image: &ShownImage, index: usi
     ensures { AddsSome W.taken W.failures text.old text.new }
 {
     match index {
+        directory_index::RESOURCE => write_resource_summary(text, &image.resources),
         directory_index::DEBUG => write_debug_summary(text, image),
         directory_index::EXCEPTION => write_function_count(text, image.layout),
         directory_index::TLS => write_callback_count(text, image.layout),

@@ -17,7 +17,7 @@ use Rattle.pe_tables.specs.ImportFaults.{import_tests}
 use Rattle.pe_tables.specs.ImportPlaces.{IsApart}
 use Rattle.pe_tables.specs.Imports.{Import, imports_of}
 use Rattle.pe_tables.specs.Key.{Key, Rva}
-use Rattle.pe_tables.specs.Ranges.{AreApart}
+use Rattle.pe_ranges.specs.Ranges.{AreApart}
 use Rattle.pe_tables.specs.declared.fixups.Fixup.{Fixup}
 use Rattle.pe_image.specs.ImageTests.{image_tests, table_tests}
 use Rattle.pe_set.specs.Set.{Entry, Module, module_of, modules_of}

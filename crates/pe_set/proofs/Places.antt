@@ -7,7 +7,7 @@ use Rattle.std.proofs.lemmas.Bool.Decides.{nat_tests}
 use Rattle.std.proofs.lemmas.Option.{same_Some}
 use Rattle.pe_view.specs.Faults.{Test, first_standing}
 use Rattle.pe_view.specs.FirstStanding.{first-past, none_stands}
-use Rattle.pe_tables.specs.Ranges.{meets, AreApart}
+use Rattle.pe_ranges.specs.Ranges.{meets, AreApart}
 use Rattle.pe_set.specs.Numbered.{numbered}
 use Rattle.pe_set.specs.Placement.{Placement, address_limit, overlap, base_tests}
 use Rattle.pe_set.specs.Set.{Module, placement_of}

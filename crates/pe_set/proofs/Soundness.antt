@@ -10,7 +10,7 @@ use Rattle.pe_tables.specs.Exports.{target_at}
 use Rattle.pe_tables.specs.ImportPlaces.{IsApart}
 use Rattle.pe_tables.specs.Imports.{Import}
 use Rattle.pe_tables.specs.Key.{Key, Rva}
-use Rattle.pe_tables.specs.Ranges.{AreApart}
+use Rattle.pe_ranges.specs.Ranges.{AreApart}
 use Rattle.pe_set.specs.Bindings.{bound_to, binding_of, bindings_in, bindings_of}
 use Rattle.pe_set.specs.Numbered.{numbered}
 use Rattle.pe_set.specs.Placement.{address_limit}

@@ -5,7 +5,7 @@ use Rattle.pe_view.specs.declared.fault.Place.TheVariants.{Address, Item}
 use Rattle.pe_view.specs.Faults.{Test, test}
 use Rattle.pe_head.specs.declared.optional.Magic.{Magic}
 use Rattle.pe_head.specs.declared.optional.Magic.TheVariants.{Pe32, Pe32Plus}
-use Rattle.pe_tables.specs.Ranges.{meets}
+use Rattle.pe_ranges.specs.Ranges.{meets}
 
 -- an image's base, its SizeOfImage, and of its headers the Magic, ImageBase and whether its relocations were stripped
 pub record Placement : Type 0 where

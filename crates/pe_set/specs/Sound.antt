@@ -2,7 +2,7 @@
 use Rattle.std.specs.Prelude.{◌≡◌, ◌+◌, ◌*◌, ◌%◌, ◌<◌, ◌≤◌, ◌^◌, ℕ, List, Some, All, AllPairs, length, slice_get}
 use Rattle.pe_layout.specs.Image.{slot_width_of}
 use Rattle.pe_tables.specs.Fixups.{width_of, range_of}
-use Rattle.pe_tables.specs.Ranges.{AreApart}
+use Rattle.pe_ranges.specs.Ranges.{AreApart}
 use Rattle.pe_tables.specs.declared.fixups.Fixup.{Fixup}
 use Rattle.pe_set.specs.Bindings.{bindings_of}
 use Rattle.pe_set.specs.Placement.{address_limit}

@@ -3,7 +3,7 @@
 ghost use Rattle.std.specs.Prelude.{◌≡◌, ◌++◌, map};
 ghost use Rattle.std.specs.List.{list_any};
 ghost use Rattle.pe_view.specs.Faults.{first_standing};
-ghost use Rattle.pe_tables.specs.Ranges.{meets};
+ghost use Rattle.pe_ranges.specs.Ranges.{meets};
 ghost use Rattle.pe_set.specs.Placement.{Placement, address_limit, base_tests};
 
 use pe_head::Magic;

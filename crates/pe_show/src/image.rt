@@ -26,6 +26,7 @@ use pe_record_pages::{
     write_trust,
 };
 use pe_records::findings;
+use pe_resource_pages::{ImageResources, ShownResources, write_resources};
 use pe_tables::{Import, NamesByOrdinal};
 use pe_text::Part::Text;
 use pe_text::{Outcome, ShowOptions, Sink, TextWriter};
@@ -100,6 +101,7 @@ fn write_beyond<W: Sink>(
     write_functions(text, options, image, names);
     write_tls(text, options, image, names);
     write_load_configuration(text, options, image);
+    write_resources(text, options, image.layout, &image.resources);
 }
 
 /// Adds the page of an image that is laid out.
@@ -117,6 +119,7 @@ fn write_image<A: Allocator + Copy, W: Sink>(
     let ShownImage {
         layout,
         file,
+        resources,
         findings,
         trust,
     } = *image;
@@ -126,7 +129,12 @@ fn write_image<A: Allocator + Copy, W: Sink>(
     write_title(text, page, outcome, image_kind(headers), file.len());
     write_headers(text, page, headers, Some(entry), is_reproducible(layout));
     write_others(text, headers, file.len());
-    write_identity(text, page.options, image_pdb(layout, file));
+    write_identity(
+        text,
+        page.options,
+        resources.version,
+        image_pdb(layout, file),
+    );
     write_sections(text, page, headers, &names);
     write_directories(text, page, image, &names, tables);
     write_exports(text, page.options, layout, &names, tables, names_by_ordinal);
@@ -158,10 +166,16 @@ pub(crate) fn show_image<A: Allocator + Copy, W: Sink>(
             let names = order_names(alloc, &tables, page.options.exports)?;
             let mut findings = findings(alloc, &layout, file.beginning())?;
             drop_unread(&mut findings, &layout, file);
+            let resources = ImageResources::read(alloc, &layout, &mut findings)?;
             let trust = trust_findings(page.options, file, layout.headers());
             let image = ShownImage {
                 layout: &layout,
                 file,
+                resources: ShownResources {
+                    leaves: resources.leaves.as_slice(),
+                    version: resources.version,
+                    manifest: resources.manifest,
+                },
                 findings: findings.as_slice(),
                 trust: &trust,
             };

@@ -5,7 +5,7 @@ use Rattle.std.proofs.lemmas.Bool.{cases_lt}
 use Rattle.std.proofs.lemmas.List.{length-map}
 use Rattle.std.proofs.lemmas.List.FromFn.{length-map-range_with_len}
 use Rattle.pe_tables.specs.Fixups.{width_of, range_of}
-use Rattle.pe_tables.specs.Ranges.{AreApart}
+use Rattle.pe_ranges.specs.Ranges.{AreApart}
 use Rattle.pe_tables.specs.declared.fixups.Fixup.{Fixup}
 use Rattle.pe_set.specs.Bindings.{bindings_of}
 use Rattle.pe_set.specs.Placement.{address_limit}

@@ -22,7 +22,7 @@ use Rattle.pe_space.proofs.Defining.{placements_bared}
 use Rattle.pe_view.specs.Faults.{first_standing}
 use Rattle.std.specs.Prelude.{count_by}
 use Rattle.pe_set.specs.Placement.{Placement, address_limit, overlap, no_placement, placement_at, move_tests}
-use Rattle.pe_tables.specs.Ranges.{meets}
+use Rattle.pe_ranges.specs.Ranges.{meets}
 use Rattle.pe_view.specs.FirstStanding.{none_stands}
 use Rattle.std.specs.List.{Contains}
 use Rattle.std.proofs.lemmas.List.Sorted.{Contains-permutation, IsPermutation-sym, sum_by-IsPermutation}

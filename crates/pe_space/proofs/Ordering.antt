@@ -9,7 +9,7 @@ use Rattle.std.proofs.lemmas.Option.{slice_get-get_or}
 use Rattle.std.proofs.lemmas.List.Elements.{Contains-append_cases, Contains-append_left, Contains-append_right}
 use Rattle.std.proofs.lemmas.List.Sorted.{Contains-permutation, IsPermutation-sym}
 use borrow.Author.Tests.{lt-ltb, eq-eqb, ne_eqb}
-use Rattle.pe_tables.specs.Ranges.{meets}
+use Rattle.pe_ranges.specs.Ranges.{meets}
 use Rattle.pe_set.specs.Placement.{Placement, no_placement, placement_at, others_than}
 use Rattle.pe_space.specs.ByBase.{base_of, numbered, IsByBase, with_base, StandApart}
 use Rattle.pe_space.specs.Content.{is_in, placed_from}

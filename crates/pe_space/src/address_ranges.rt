@@ -3,7 +3,7 @@
 ghost use Rattle.std.specs.Prelude.{◌≡◌, ◌+◌, ◌<◌, ◌≤◌, ◌^◌, length, map, IfSome, IfOk};
 ghost use Rattle.std.specs.List.{list_any};
 ghost use Rattle.pe_view.specs.Faults.{first_standing};
-ghost use Rattle.pe_tables.specs.Ranges.{meets};
+ghost use Rattle.pe_ranges.specs.Ranges.{meets};
 ghost use Rattle.pe_set.specs.Placement.{move_tests, others_than};
 ghost use Rattle.pe_space.specs.ByBase.{IsByBase, StandApart};
 ghost use Rattle.pe_space.specs.Content.{placed_from, base_in, size_in, window_fault, window_image};

@@ -5,7 +5,7 @@ use Rattle.std.specs.List.{list_any}
 use Rattle.std.proofs.lemmas.Bool.{ltb-false, lt-ltb, cases_Bool, cases_lt}
 use Rattle.std.proofs.lemmas.Bool.Decides.{nat_tests}
 use Rattle.std.proofs.lemmas.List.Folds.{list_any_at}
-use Rattle.pe_tables.specs.Ranges.{meets, meets_any, FitsBeside, SameRanges}
+use Rattle.pe_ranges.specs.Ranges.{meets, meets_any, FitsBeside, SameRanges}
 use Rattle.pe_tables.specs.Fixups.{width_of, range_of}
 use Rattle.pe_tables.specs.declared.fixups.Fixup.{Fixup}
 use Rattle.pe_tables.specs.declared.fixups.FixupKind.{FixupKind}

@@ -9,7 +9,7 @@ use Rattle.pe_view.specs.Faults.{Test, first_standing}
 use Rattle.pe_view.specs.FirstStanding.{first-past, first-in}
 use Rattle.pe_head.specs.declared.directory.Directory.{Directory}
 use Rattle.pe_layout.specs.Image.{LaidOut, is_inside, fault_at}
-use Rattle.pe_tables.specs.Ranges.{SameRanges, meets}
+use Rattle.pe_ranges.specs.Ranges.{SameRanges, meets}
 use Rattle.pe_tables.specs.Fixups.{Block, Entry, block_at, blocks_from, blocks_of, ends_table, entries_of, fixup_of, fixups_in, width_of}
 use Rattle.pe_tables.specs.FixupFaults.{field_tests, entries_tests, blocks_tests, is_bad_size, size_test, fixup_tests_at}
 use Rattle.pe_tables.specs.TableFaults.{goes_past}

@@ -3,7 +3,7 @@ use Rattle.std.proofs.Common.{◌≡◌, ℕ, ◌+◌, ◌≤◌, false, List, g
 use Rattle.std.specs.Prelude.{nat_lt}
 use Rattle.std.proofs.lemmas.Bool.{le-ltb, and_right}
 use Rattle.std.proofs.lemmas.List.Folds.{list_any_none}
-use Rattle.pe_tables.specs.Ranges.{meets, meets_any}
+use Rattle.pe_ranges.specs.Ranges.{meets, meets_any}
 use Rattle.pe_tables.specs.FixupReading.{IsClear}
 use Rattle.pe_tables.proofs.Beside.{apart_range, none_at}
 

@@ -7,14 +7,14 @@ use Rattle.pe_view.specs.Faults.{Test, first_standing}
 use Rattle.pe_view.specs.FirstStanding.{none-append, none_stands}
 use Rattle.pe_head.specs.declared.directory.Directory.{Directory}
 use Rattle.pe_layout.specs.Image.{LaidOut, is_inside, fault_at}
-use Rattle.pe_tables.specs.Ranges.{meets, meets_any, AreApart}
+use Rattle.pe_ranges.specs.Ranges.{meets, meets_any, AreApart}
 use Rattle.pe_tables.specs.Fixups.{Block, Entry, width_of, range_of, slot_range, is_known, fixup_of, entries_of, fixups_in, fixups_at, fixups_of, blocks_of}
 use Rattle.pe_tables.specs.FixupFaults.{field_tests, entry_tests, entries_tests, size_test, blocks_tests, fixup_tests_at, fixup_tests}
 use Rattle.pe_tables.specs.declared.fixups.Fixup.{Fixup}
 use Rattle.pe_tables.proofs.Beside.{none_at, apart_range, list_any-map}
 use Rattle.pe_tables.proofs.Entries.{filter_map-cons}
 use Rattle.pe_tables.proofs.Lookups.{affirmed, leb-≤}
-use Rattle.pe_tables.proofs.Pairs.{AllPairs-nil, AllPairs-snoc}
+use Rattle.pe_ranges.proofs.Pairs.{AllPairs-nil, AllPairs-snoc}
 
 -- the field shares no byte with any of these ranges
 abbrev pub IsOff : List (ℕ × ℕ) → Fixup → Type 0

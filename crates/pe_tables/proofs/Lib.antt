@@ -28,14 +28,11 @@ pub mod LastDot
 pub mod LongPaths
 pub mod LongTexts
 pub mod Lookups
-pub mod Meeting
 pub mod NameOrder
 pub mod NameTrails
 pub mod Named
 pub mod Names
-pub mod Neighbours
 pub mod Pages
-pub mod Pairs
 pub mod Past
 pub mod Patching
 pub mod PlainEntries
@@ -43,7 +40,6 @@ pub mod Refusing
 pub mod Rising
 pub mod RisingFields
 pub mod Rows
-pub mod Runs
 pub mod Search
 pub mod Settled
 pub mod Shifts

@@ -17,7 +17,7 @@ use Rattle.pe_tables.specs.declared.export_table.Table.{Table}
 use Rattle.pe_tables.proofs.Each.{given-push}
 use Rattle.pe_tables.proofs.Entries.{filter_map-cons}
 use Rattle.pe_tables.proofs.Names.{Named, has, behind, first-push, find-other}
-use Rattle.pe_tables.proofs.Pairs.{AllPairs-nil}
+use Rattle.pe_ranges.proofs.Pairs.{AllPairs-nil}
 
 -- a search finds a name that is last
 found_last : (ns : List Named) (n : Named) (text : List ℕ) → bytes_eq text n.0 ≡ true → is_some (find (has text) (ns ++ n ∷ [])) ≡ true

@@ -4,7 +4,7 @@ use Rattle.std.specs.Prelude.{map, not}
 use Rattle.std.proofs.lemmas.Bool.{le-leb}
 use Rattle.pe_view.specs.Faults.{first_standing}
 use Rattle.pe_layout.specs.Image.{LaidOut, fault_at}
-use Rattle.pe_tables.specs.Ranges.{meets_any}
+use Rattle.pe_ranges.specs.Ranges.{meets_any}
 use Rattle.pe_tables.specs.Fixups.{Entry, fixup_of, fixup_by, is_known, kind_of, width_of, range_of}
 use Rattle.pe_tables.specs.Encoded.{type_of}
 use Rattle.pe_tables.specs.FixupFaults.{field_tests, entry_tests}

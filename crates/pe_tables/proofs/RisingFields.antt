@@ -6,16 +6,16 @@ use Rattle.std.proofs.lemmas.Bool.{le-ltb}
 use Rattle.std.proofs.lemmas.List.{get_or-take, get_or_default}
 use Rattle.std.proofs.lemmas.List.Elements.{All-append, All-cons, All-nil}
 use Rattle.std.proofs.lemmas.List.Folds.{list_any_none}
-use Rattle.pe_tables.specs.Ranges.{meets, meets_any, range_end, Gains, SameRanges}
-use Rattle.pe_tables.specs.RangesView.{ranges_in}
+use Rattle.pe_ranges.specs.Ranges.{meets, meets_any, range_end, Gains, SameRanges}
+use Rattle.pe_ranges.specs.RangesView.{ranges_in}
 use Rattle.pe_tables.specs.Fixups.{width_of, range_of}
 use Rattle.pe_tables.specs.declared.fixups.Fixup.{Fixup}
-use Rattle.pe_tables.specs.declared.ranges.Ranges.{Ranges}
+use Rattle.pe_ranges.specs.declared.ranges.Ranges.{Ranges}
 use Rattle.pe_tables.specs.declared.found_fixups.FoundFixups.{FoundFixups}
 use Rattle.pe_tables.specs.FixupReading.{EndAt, AreRising, FitsBesideAny, GainsAny, IsIndexed, Tells, Reads}
 use Rattle.pe_tables.proofs.Beside.{all_beside, fields_long, list_any-map, width_some}
-use Rattle.pe_tables.proofs.Neighbours.{swapped}
-use Rattle.pe_tables.proofs.Pairs.{AllPairs-snoc}
+use Rattle.pe_ranges.proofs.Neighbours.{swapped}
+use Rattle.pe_ranges.proofs.Pairs.{AllPairs-snoc}
 
 -- a range that begins after all fields meets none
 pub behind-apart : (start len : ℕ) (fixups : List Fixup) → EndAt start fixups → meets_any start len (map range_of fixups) ≡ false

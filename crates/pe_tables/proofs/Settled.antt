@@ -7,14 +7,14 @@ use Rattle.std.proofs.lemmas.List.{get_or_append_left, map-append}
 use Rattle.std.proofs.lemmas.List.Elements.{All-map}
 use Rattle.std.proofs.lemmas.List.Folds.{list_any_none}
 use Rattle.std.proofs.lemmas.List.Kept.{AllPairs-cons}
-use Rattle.pe_tables.specs.Ranges.{AreApart, SameRanges, meets, meets_any}
-use Rattle.pe_tables.specs.RangesView.{ranges_in}
+use Rattle.pe_ranges.specs.Ranges.{AreApart, SameRanges, meets, meets_any}
+use Rattle.pe_ranges.specs.RangesView.{ranges_in}
 use Rattle.pe_tables.specs.Fixups.{range_of, width_of}
 use Rattle.pe_tables.specs.FixupReading.{AreAllApart, AreRising, IsIndexed, IsMet, IsSettled, Keeps}
 use Rattle.pe_tables.specs.declared.fixups.Fixup.{Fixup}
-use Rattle.pe_tables.specs.declared.ranges.Ranges.{Ranges}
+use Rattle.pe_ranges.specs.declared.ranges.Ranges.{Ranges}
 use Rattle.pe_tables.specs.declared.found_fixups.FoundFixups.{FoundFixups}
-use Rattle.pe_tables.proofs.Pairs.{AllPairs-nil}
+use Rattle.pe_ranges.proofs.Pairs.{AllPairs-nil}
 use Rattle.pe_tables.proofs.RisingFields.{behind-apart, ends-later}
 
 -- related pairs, after a function of each

@@ -9,7 +9,7 @@ use Rattle.pe_view.specs.Faults.{Test, first_standing}
 use Rattle.pe_view.specs.FirstStanding.{none-append, none_stands}
 use Rattle.pe_head.specs.declared.directory.Directory.{Directory}
 use Rattle.pe_layout.specs.Image.{LaidOut, is_inside, fault_at}
-use Rattle.pe_tables.specs.Ranges.{meets, meets_any}
+use Rattle.pe_ranges.specs.Ranges.{meets, meets_any}
 use Rattle.pe_tables.specs.Imports.{Import, Lookup, ends_table, ends_list, is_null, key_of, import_of, module_of, lookups_of, imports_in, imports_at}
 use Rattle.pe_tables.specs.ImportFaults.{range_of, key_tests, slot_tests, lookup_tests, lookups_tests, module_tests, descriptor_tests, descriptors_tests, import_tests_at}
 use Rattle.pe_tables.specs.ImportPlaces.{IsApart}
@@ -17,7 +17,7 @@ use Rattle.pe_tables.specs.declared.imports.Descriptor.{Descriptor}
 use Rattle.pe_tables.proofs.Beside.{none_at, apart_range, list_any-map}
 use Rattle.pe_tables.proofs.Entries.{filter_map-cons}
 use Rattle.pe_tables.proofs.Lookups.{affirmed, leb-≤}
-use Rattle.pe_tables.proofs.Pairs.{AllPairs-nil, AllPairs-snoc}
+use Rattle.pe_ranges.proofs.Pairs.{AllPairs-nil, AllPairs-snoc}
 
 unequal : (a b : ℕ) → (a == b) ≡ false → a ≤ b → a < b
 unequal a b e le = grind (arith, nat_tests)

@@ -4,7 +4,7 @@ use Rattle.std.specs.Prelude.{option_to_list}
 use Rattle.pe_view.specs.Faults.{Test}
 use Rattle.pe_head.specs.declared.directory.Directory.{Directory}
 use Rattle.pe_layout.specs.Image.{LaidOut, is_inside, fault_at}
-use Rattle.pe_tables.specs.Ranges.{meets_any}
+use Rattle.pe_ranges.specs.Ranges.{meets_any}
 use Rattle.pe_tables.specs.Fixups.{Block, Entry, blocks_of, entries_of, fixup_of, fixups_in, is_known, width_of, range_of, slot_range}
 use Rattle.pe_tables.specs.declared.fixups.Fixup.{Fixup}
 

@@ -3,14 +3,14 @@ use Rattle.std.specs.Prelude.{◌≡◌, ℕ, ◌+◌, ◌<◌, ◌≤◌, Bool,
 use Rattle.std.specs.List.{filter_map}
 use Rattle.pe_view.specs.Faults.{first_standing}
 use Rattle.pe_layout.specs.Image.{LaidOut}
-use Rattle.pe_tables.specs.Ranges.{AreApart, FitsBeside, Gains, SameRanges, meets_any, range_end}
-use Rattle.pe_tables.specs.RangesView.{ranges_in}
+use Rattle.pe_ranges.specs.Ranges.{AreApart, FitsBeside, Gains, SameRanges, meets_any, range_end}
+use Rattle.pe_ranges.specs.RangesView.{ranges_in}
 use Rattle.pe_tables.specs.Fixups.{Entry, fixup_of, range_of, width_of}
 use Rattle.pe_tables.specs.Encoded.{type_of}
 use Rattle.pe_tables.specs.declared.entry_run.Run.{Run}
 use Rattle.pe_tables.specs.FixupFaults.{entries_tests}
 use Rattle.pe_tables.specs.declared.fixups.Fixup.{Fixup}
-use Rattle.pe_tables.specs.declared.ranges.Ranges.{Ranges}
+use Rattle.pe_ranges.specs.declared.ranges.Ranges.{Ranges}
 use Rattle.pe_tables.specs.declared.found_fixups.FoundFixups.{FoundFixups}
 
 -- no field ends after this RVA

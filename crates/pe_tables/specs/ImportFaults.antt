@@ -3,7 +3,7 @@ use Rattle.std.specs.Prelude.{ℕ, ◌+◌, ◌/◌, ◌^◌, not, ◌&&◌, ◌
 use Rattle.pe_view.specs.Faults.{Test}
 use Rattle.pe_head.specs.declared.directory.Directory.{Directory}
 use Rattle.pe_layout.specs.Image.{LaidOut, is_inside, fault_at}
-use Rattle.pe_tables.specs.Ranges.{meets_any}
+use Rattle.pe_ranges.specs.Ranges.{meets_any}
 use Rattle.pe_tables.specs.Imports.{Import, Lookup, is_null, descriptors_of, lookups_of, is_ordinal, name_of, import_of, module_of, imports_in}
 use Rattle.pe_tables.specs.declared.imports.Descriptor.{Descriptor}
 

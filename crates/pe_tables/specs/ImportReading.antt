@@ -1,7 +1,7 @@
 -- The imports of an import table read so far. No contract of a public function cites it.
 use Rattle.std.specs.Prelude.{◌≡◌, ℕ, List, ◌++◌, map}
-use Rattle.pe_tables.specs.Ranges.{SameRanges}
-use Rattle.pe_tables.specs.RangesView.{ranges_in}
+use Rattle.pe_ranges.specs.Ranges.{SameRanges}
+use Rattle.pe_ranges.specs.RangesView.{ranges_in}
 use Rattle.pe_tables.specs.Imports.{Import}
 use Rattle.pe_tables.specs.ImportFaults.{range_of}
 use Rattle.pe_tables.specs.ImportView.{import_view}

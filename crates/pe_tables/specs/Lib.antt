@@ -27,8 +27,6 @@ pub mod NameIndex
 pub mod NameTrail
 pub mod Patch
 pub mod Patched
-pub mod Ranges
-pub mod RangesView
 pub mod Relocated
 pub mod Standing
 pub mod TableFaults

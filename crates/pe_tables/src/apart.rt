@@ -1,7 +1,7 @@
 //! Whether ranges have no RVA in common.
 
 ghost use Rattle.std.specs.Prelude.{◌≤◌, IsTrue, AllPairs};
-ghost use Rattle.pe_tables.specs.Ranges.{AreApart, range_end};
+ghost use Rattle.pe_ranges.specs.Ranges.{AreApart, range_end};
 
 /// Whether each of these ranges begins where the one before it ends, or later.
 fn is_rising(ranges: &[(u32, u32)]) -> bool

@@ -5,15 +5,15 @@ ghost use Rattle.pe_layout.specs.Layout.{image_of};
 ghost use Rattle.pe_view.specs.View.{bytes_of, size_of};
 ghost use Rattle.pe_layout.specs.Image.{number_at, bytes_at};
 ghost use Rattle.pe_view.specs.Faults.{first_standing};
-ghost use Rattle.pe_tables.specs.RangesView.{ranges_in};
+ghost use Rattle.pe_ranges.specs.RangesView.{ranges_in};
 ghost use Rattle.pe_tables.specs.Fixups.{entry_of, entries_at, fixup_of};
 ghost use Rattle.pe_tables.specs.FixupFaults.{entry_tests};
 ghost use Rattle.pe_tables.specs.FixupReading.{IsClear, IsIndexed, IsRunOf, Keeps, Reads, ReadsUpTo};
 
 use crate::fixups::{Fixup, FixupKind};
 use crate::found_fixups::FoundFixups;
-use crate::ranges::Ranges;
 use pe_layout::Layout;
+use pe_ranges::Ranges;
 use pe_view::View;
 use std::alloc::{AllocError, Allocator};
 

@@ -1,13 +1,13 @@
 //! `FoundFixups`: the fixups read so far, and whether a field shares a byte with one of theirs.
 
 ghost use Rattle.std.specs.Prelude.{◌≡◌, ◌+◌, ◌≤◌, ◌<◌, ◌^◌, [], ◌∷◌, None, OnOk, IfOk, IsTrue, map, false, is_none, nat_le, true};
-ghost use Rattle.pe_tables.specs.Ranges.{meets_any};
+ghost use Rattle.pe_ranges.specs.Ranges.{meets_any};
 ghost use Rattle.pe_tables.specs.Fixups.{width_of, range_of};
 ghost use Rattle.pe_tables.specs.FixupReading.{AreAllApart, FitsBesideAny, GainsAny, IsIndexed, IsKept, IsMet, IsSettled, Keeps, Tells, Reads};
 
 use crate::apart::are_apart;
 use crate::fixups::Fixup;
-use crate::ranges::Ranges;
+use pe_ranges::Ranges;
 use std::alloc::{AllocError, Allocator};
 
 /// The fixups read so far.

@@ -17,9 +17,9 @@ ghost use Rattle.pe_view.specs.declared.refusal.Refusal.{Refusal};
 use crate::error::{TableError, fault_at};
 use crate::import::Import;
 use crate::key::Key;
-use crate::ranges::Ranges;
 use pe_head::directory_index;
 use pe_layout::Layout;
+use pe_ranges::Ranges;
 use pe_view::TextEnds;
 use std::alloc::{AllocError, Allocator};
 

@@ -12,7 +12,7 @@ ghost use Rattle.pe_tables.specs.ExportFaults.{export_tests};
 ghost use Rattle.pe_tables.specs.ExportPlaces.{IsFirstName, IsUnnamed, IsUnnumbered, StandsBefore, exported_at};
 ghost use Rattle.pe_tables.specs.Fixups.{width_of, range_of, slot_range, fixups_at, fixups_of};
 ghost use Rattle.pe_tables.specs.FixupFaults.{fixup_tests, fixup_tests_at};
-ghost use Rattle.pe_tables.specs.Ranges.{meets_any, AreApart, HasCommon};
+ghost use Rattle.pe_ranges.specs.Ranges.{meets_any, AreApart, HasCommon};
 ghost use Rattle.pe_tables.specs.Forwarder.{forwarder_of, IsForwarderText};
 ghost use Rattle.pe_tables.specs.Relocated.{amount, shift};
 ghost use Rattle.pe_tables.specs.declared.fixups.FixupKind.{FixupKind};

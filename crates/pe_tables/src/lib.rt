@@ -39,7 +39,6 @@ mod long_texts;
 mod name_index;
 mod name_order;
 mod name_trail;
-mod ranges;
 mod text_map;
 mod text_run;
 mod text_slots;

@@ -19,7 +19,7 @@ pub struct FaultWords {
 }
 
 /// The words of each fault: its number, what is at its place, and the rule that it breaks.
-static RULES: [(u16, &str, &str); 102] = [
+static RULES: [(u16, &str, &str); 115] = [
     (1, "byte", "the file is larger than 2^32 bytes"),
     (
         2,
@@ -422,6 +422,67 @@ static RULES: [(u16, &str, &str); 102] = [
         152,
         "bound import",
         "the name of its module is not in the image",
+    ),
+    (
+        181,
+        "resource directory",
+        "the file does not hold the first 16 bytes of the root",
+    ),
+    (
+        182,
+        "resource directory",
+        "the file does not hold all of it",
+    ),
+    (
+        183,
+        "name in the resource tree",
+        "the file does not hold all of it",
+    ),
+    (
+        184,
+        "resource data entry",
+        "the file does not hold all of it",
+    ),
+    (
+        185,
+        "resource directory",
+        "it shares a byte with a directory that was read before it",
+    ),
+    (
+        186,
+        "resource data entry",
+        "it is not at the third level of the tree",
+    ),
+    (
+        187,
+        "resource directory",
+        "it is at a fourth level of the tree",
+    ),
+    (
+        188,
+        "resource data entry",
+        "its data extends past the end of the image",
+    ),
+    (
+        189,
+        "resource directory",
+        "its entries are not in ascending order, those with texts before those with ids",
+    ),
+    (
+        211,
+        "version information",
+        "its key or its fixed part is not as it must be",
+    ),
+    (
+        212,
+        "block of version information",
+        "it extends past the end of the block that it is in",
+    ),
+    (213, "block of version information", "no zero ends its key"),
+    (
+        214,
+        "block of version information",
+        "its length is less than that of its three numbers",
     ),
     (
         221,

@@ -19,6 +19,8 @@ pub struct ShowOptions {
     pub tls: bool,
     /// The fields of the load configuration, a row each.
     pub load: bool,
+    /// The resources, a row each, with version information and the manifest.
+    pub resources: bool,
     /// CheckSum as it is to be, the certificates, whether the digest that they sign is the file's, and the Rich header.
     pub trust: bool,
     /// Headings are bold, and a refusal is red.
@@ -36,6 +38,7 @@ impl ShowOptions {
         functions: true,
         tls: true,
         load: true,
+        resources: true,
         trust: true,
         is_coloured: false,
     };

@@ -1,6 +1,6 @@
 -- Findings that come before a number or after it, one after the other.
 use Rattle.std.proofs.Common.{◌≡◌, ◌∙◌, ℕ, ◌+◌, ◌<◌, Bool, cond, true, List, [], ◌∷◌, ◌++◌, length, take, get_or, set, sym, ap, arith}
-use Rattle.std.proofs.lemmas.List.{append_assoc, length-append}
+use Rattle.std.proofs.lemmas.List.{append_assoc, length-append, length-take-le, take_more}
 use Rattle.std.proofs.lemmas.List.Elements.{filter_more}
 use Rattle.pe_view.specs.declared.fault.Fault.{Fault}
 use Rattle.pe_records_c.specs.Faults.{fault_record}
@@ -38,3 +38,19 @@ part_stored late found done i start count d x initial rows new r under is here l
     ∙ ap (λ (n : ℕ). set (filled fault_record (done ++ these) initial) n (fault_record x)) place
     ∙ filled_behind fault_record (done ++ these) initial x
     ∙ ap (λ (faults : List Fault). filled fault_record faults initial) (append_assoc done these (x ∷ []) ∙ ap (λ (faults : List Fault). done ++ faults) (sym (part_more late found i d x under is here)))
+
+-- the row of one more of all findings
+pub all_stored : (found done : List Fault) (i start : ℕ) (d x : Fault) (initial rows new : List FaultRecord) (r : FaultRecord) → i < length found → x ≡ get_or found i d → length done ≡ start
+    → rows ≡ filled fault_record (done ++ take i found) initial → r ≡ fault_record x → new ≡ set rows (start + i) r → new ≡ filled fault_record (done ++ take (i + 1) found) initial
+all_stored found done i start d x initial rows new r under is len before row stores =
+    let these = take i found in
+    let both = length-append done these in
+    let taken = length-take-le i found (omega (arith, under)) in
+    let place : start + i ≡ length (done ++ these) = omega (arith, both, len, taken) in
+    let more = take_more found i d under ∙ ap (λ (f : Fault). these ++ f ∷ []) (sym is) in
+    stores
+    ∙ ap (set rows (start + i)) row
+    ∙ ap (λ (rs : List FaultRecord). set rs (start + i) (fault_record x)) before
+    ∙ ap (λ (n : ℕ). set (filled fault_record (done ++ these) initial) n (fault_record x)) place
+    ∙ filled_behind fault_record (done ++ these) initial x
+    ∙ ap (λ (faults : List Fault). filled fault_record faults initial) (append_assoc done these (x ∷ []) ∙ ap (λ (faults : List Fault). done ++ faults) (sym more))

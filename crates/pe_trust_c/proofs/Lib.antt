@@ -1,5 +1,5 @@
-mod FewRows
-mod FilledRows
+pub mod FewRows
+pub mod FilledRows
 mod FindingParts
 mod PresentFaults
 mod RichPairs

@@ -2,9 +2,6 @@
 use Rattle.std.specs.Prelude.{ℕ, nat_lt, Bool, true, false, not, List, ◌++◌, if◌then◌else◌}
 use Rattle.std.specs.List.{filter}
 use Rattle.pe_view.specs.declared.fault.Fault.{Fault}
-use Rattle.pe_head.specs.Head.{head_of}
-use Rattle.pe_tables_c.specs.Findings.{findings_of}
-use Rattle.pe_trust_c.specs.TrustFindings.{trust_findings_of}
 
 -- the number of the last of those on what a file says of itself
 abbrev pub LAST : ℕ
@@ -17,9 +14,6 @@ is_of_part is_late f = if is_late then nat_lt LAST f.number else not (nat_lt LAS
 abbrev pub part_of : Bool → List Fault → List Fault
 part_of is_late found = filter (is_of_part is_late) found
 
--- findings of tables with others between them, by number
-abbrev pub with_between : List Fault → List Fault → List Fault
-with_between found own = (part_of false found ++ own) ++ part_of true found
-
-abbrev pub all_findings_of : List ℕ → List Fault
-all_findings_of file = with_between (findings_of file) (trust_findings_of file (head_of file))
+-- findings of tables with others between them, by number: those of the resources, and then those on what a file says of itself
+abbrev pub with_between : List Fault → List Fault → List Fault → List Fault
+with_between found resources own = ((part_of false found ++ resources) ++ own) ++ part_of true found

@@ -49,19 +49,34 @@ fn put_part(rows: &mut [FaultRecord], start: usize, found: &[Fault], is_late: bo
     count
 }
 
-/// Reports all findings of an image's file, given those of its tables: fills the rows, counts the findings, and returns the status, 0
-/// or 4.
+/// Adds findings to rows that hold `start` others, as many as fit, and returns how many there are then.
+fn put_all(rows: &mut [FaultRecord], start: usize, found: &[Fault]) -> usize
+    requires { start + length found.now < 2 ^ 64 }
+    ensures rows { (done : List Fault) (initial : List FaultRecord) → length done ≡ start → rows.old ≡ filled fault_record done initial
+        → rows.new ≡ filled fault_record (done ++ found.now) initial }
+    ensures count { result ≡ start + length found.now }
+{
+    for index in 0..found.len() {
+        put_row(rows, start + index, fault_record(found[index]));
+    }
+    start + found.len()
+}
+
+/// Reports all findings of an image's file, given those of its resources and those of its other tables: fills the rows, counts the
+/// findings, and returns the status, 0 or 4.
 pub fn tell_all_findings(
     found: &[Fault],
+    resources: &[Fault],
     file: View,
     headers: &Headers,
     rows: &mut [FaultRecord],
     count: &mut usize,
 ) -> u32
-    ensures { TellsTable (λ row. row) fault_record (with_between found.now (trust_findings_of (bytes_of file.entry) headers.now)) rows.old rows.new count.new result }
+    ensures { TellsTable (λ row. row) fault_record (with_between found.now resources.now (trust_findings_of (bytes_of file.entry) headers.now)) rows.old rows.new count.new result }
 {
     let early = put_part(rows, 0, found, false);
-    let between = put_findings(rows, early, &findings_in(file, headers));
-    *count = put_part(rows, between, found, true);
+    let between = put_all(rows, early, resources);
+    let own = put_findings(rows, between, &findings_in(file, headers));
+    *count = put_part(rows, own, found, true);
     table_status(*count, rows.len())
 }

@@ -20,7 +20,7 @@ pub mod finding;
 pub mod hash;
 pub mod overlay;
 pub mod rich;
-mod row;
+pub mod row;
 pub mod signature;
 pub mod signer;
 pub mod sum;

@@ -3,7 +3,7 @@
 ghost use Rattle.std.specs.Prelude.{◌≡◌, set};
 
 /// Stores the row of item `index` of a table. If there are fewer rows, they are unchanged.
-pub(crate) fn put_row<R: Copy>(rows: &mut [R], index: usize, row: R)
+pub fn put_row<R: Copy>(rows: &mut [R], index: usize, row: R)
     ensures { rows.new ≡ set rows.old index row }
 {
     if index < rows.len() {

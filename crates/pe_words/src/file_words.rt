@@ -99,7 +99,7 @@ const COLOR: &str =
     "When pages have colours: auto, on a terminal unless NO_COLOR is set or TERM is dumb; always; or never";
 
 /// The options of `show` that add rows, each with its help.
-const SHOW_OPTIONS: [(&str, &str); 10] = [
+const SHOW_OPTIONS: [(&str, &str); 11] = [
     ("exports", "Prints each export"),
     ("imports", "Prints each import"),
     (
@@ -111,6 +111,10 @@ const SHOW_OPTIONS: [(&str, &str); 10] = [
     ("functions", "Prints each function of the exception table"),
     ("tls", "Prints the TLS directory and its callbacks"),
     ("load", "Prints the load configuration"),
+    (
+        "resources",
+        "Prints each resource, the version information and the manifest",
+    ),
     (
         "trust",
         "Prints CheckSum, certificates, whether the digest that they sign is the file's, and the Rich header",
@@ -215,6 +219,7 @@ fn options_of(found: &ArgMatches<'_>) -> ShowOptions {
         functions: is_all || found.get_flag("functions"),
         tls: is_all || found.get_flag("tls"),
         load: is_all || found.get_flag("load"),
+        resources: is_all || found.get_flag("resources"),
         trust: is_all || found.get_flag("trust"),
         is_coloured: false,
     }

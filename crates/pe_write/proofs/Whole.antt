@@ -12,7 +12,7 @@ use Rattle.pe_head.specs.Section.{rawlen}
 use Rattle.pe_layout.specs.Image.{LaidOut, image_from, number_at}
 use Rattle.pe_layout.specs.Plain.{plain, section_byte}
 use Rattle.pe_tables.specs.Fixups.{width_of, range_of, fixups_of}
-use Rattle.pe_tables.specs.Ranges.{AreApart}
+use Rattle.pe_ranges.specs.Ranges.{AreApart}
 use Rattle.pe_tables.specs.declared.fixups.Fixup.{Fixup}
 use Rattle.pe_tables.specs.Relocated.{in_field}
 use Rattle.pe_write.proofs.Writes.{Write}

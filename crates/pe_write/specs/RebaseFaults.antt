@@ -10,7 +10,7 @@ use Rattle.pe_head.specs.Head.{head_of, section_offset}
 use Rattle.pe_head.specs.Section.{rawlen}
 use Rattle.pe_layout.specs.Image.{LaidOut, image_of_file}
 use Rattle.pe_layout.specs.SectionFaults.{layout_tests}
-use Rattle.pe_tables.specs.Ranges.{meets}
+use Rattle.pe_ranges.specs.Ranges.{meets}
 use Rattle.pe_tables.specs.Fixups.{fixups_of}
 use Rattle.pe_image.specs.ImageTests.{relocation_tests}
 use Rattle.pe_tables.specs.declared.fixups.Fixup.{Fixup}

@@ -31,6 +31,7 @@ mod opened_bytes;
 mod opened_tables;
 mod overlay;
 mod rebase;
+mod resource;
 mod rich;
 mod set;
 mod share;
@@ -45,5 +46,6 @@ mod tests;
 mod tls;
 mod trust_finding;
 mod unbound;
+mod version;
 mod words;
 // end of describe/records.txt

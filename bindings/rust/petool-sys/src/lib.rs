@@ -87,6 +87,13 @@ pub const PETOOL_FUNCTION_AMD64: u32 = 0;
 /// An entry of the exception table is a function of ARM64 or ARMNT, without its end.
 pub const PETOOL_FUNCTION_ARM: u32 = 1;
 
+/// A resource is named by nothing: the tree ends before this level.
+pub const PETOOL_NAMED_NOTHING: u32 = 0;
+/// A resource is named by an id.
+pub const PETOOL_NAMED_ID: u32 = 1;
+/// A resource is named by a text.
+pub const PETOOL_NAMED_TEXT: u32 = 2;
+
 /// A digest is absent: none can be read.
 pub const PETOOL_DIGEST_NONE: u32 = 0;
 /// A digest is of SHA-1, with 20 bytes.
@@ -530,6 +537,101 @@ pub struct BoundImport {
     pub offset_module_name: u16,
     /// How many records after this one are of modules that it forwards to; reserved in a record of those.
     pub number_of_module_forwarder_refs: u16,
+}
+
+/// What names a resource at one level of the tree: its type, its name or its language.
+#[repr(C)]
+#[derive(Clone, Copy, Debug)]
+pub struct ResourceName {
+    /// The text, in UTF-16, little endian; empty for an id, and if the file does not hold the text in one run.
+    pub text: Text,
+    /// The id, or where the text is, in bytes from the beginning of the tree; otherwise 0.
+    pub number: u32,
+    /// A `PETOOL_NAMED`.
+    pub kind: u32,
+}
+
+impl ResourceName {
+    /// Its value before a call sets it.
+    pub const NONE: ResourceName = ResourceName {
+        text: Text::NONE,
+        number: 0,
+        kind: 0,
+    };
+}
+
+/// A resource: a leaf of the resource tree.
+#[repr(C)]
+#[derive(Clone, Copy, Debug)]
+pub struct Resource {
+    /// The type: 16 version information, 24 a manifest.
+    pub kind: ResourceName,
+    /// The name.
+    pub name: ResourceName,
+    /// The language.
+    pub language: ResourceName,
+    /// Its data; empty if the file does not hold all of it in one run.
+    pub bytes: Text,
+    /// The RVA of the data.
+    pub rva: u32,
+    /// The size of the data.
+    pub size: u32,
+    /// The code page of texts in the data, as written.
+    pub code_page: u32,
+}
+
+impl Resource {
+    /// Its value before a call sets it.
+    pub const NONE: Resource = Resource {
+        kind: ResourceName::NONE,
+        name: ResourceName::NONE,
+        language: ResourceName::NONE,
+        bytes: Text::NONE,
+        rva: 0,
+        size: 0,
+        code_page: 0,
+    };
+}
+
+/// The fixed part of version information (VS_FIXEDFILEINFO).
+#[repr(C)]
+#[derive(Clone, Copy, Debug, Default, PartialEq, Eq, Hash)]
+pub struct VersionInfo {
+    /// The version of the file, from its first number to its last.
+    pub file_version: [u16; 4],
+    /// The version of the product, from its first number to its last.
+    pub product_version: [u16; 4],
+    /// Which flags are valid.
+    pub flags_mask: u32,
+    /// The flags: 1 a debug build, 2 a prerelease, 8 a private build.
+    pub flags: u32,
+    /// The operating system that the file is for: 0x40004 Windows.
+    pub system: u32,
+    /// What the file is: 1 a program, 2 a library, 3 a driver.
+    pub kind: u32,
+    /// The kind of driver or font.
+    pub subkind: u32,
+}
+
+/// A string of version information. All texts are in UTF-16, little endian, without the zero unit after them.
+#[repr(C)]
+#[derive(Clone, Copy, Debug)]
+pub struct VersionText {
+    /// 8 hexadecimal digits: the language and the code page.
+    pub table: Text,
+    /// What the string is, such as ProductVersion.
+    pub key: Text,
+    /// The string.
+    pub value: Text,
+}
+
+impl VersionText {
+    /// Its value before a call sets it.
+    pub const NONE: VersionText = VersionText {
+        table: Text::NONE,
+        key: Text::NONE,
+        value: Text::NONE,
+    };
 }
 
 /// CheckSum of an image's file.
@@ -1056,6 +1158,33 @@ extern "C" {
         count: *mut usize,
         fault: *mut Fault,
     ) -> u32;
+
+    pub fn petool_resources(
+        file: *const u8,
+        len: usize,
+        rows: *mut Resource,
+        room: usize,
+        count: *mut usize,
+        fault: *mut Fault,
+    ) -> u32;
+    pub fn petool_version(file: *const u8, len: usize, version: *mut VersionInfo, fault: *mut Fault) -> u32;
+    pub fn petool_version_strings(
+        file: *const u8,
+        len: usize,
+        rows: *mut VersionText,
+        room: usize,
+        count: *mut usize,
+        fault: *mut Fault,
+    ) -> u32;
+    pub fn petool_version_string(
+        file: *const u8,
+        len: usize,
+        key: *const u8,
+        key_len: usize,
+        value: *mut Text,
+        fault: *mut Fault,
+    ) -> u32;
+    pub fn petool_manifest(file: *const u8, len: usize, manifest: *mut Text, fault: *mut Fault) -> u32;
 
     pub fn petool_check_sum(file: *const u8, len: usize, sum: *mut CheckSums, fault: *mut Fault) -> u32;
     pub fn petool_certificates(

@@ -69,6 +69,16 @@ fn the_records_of_tables_beyond_the_profile_are_laid_out_as_in_c() {
 }
 
 #[test]
+fn the_records_of_resources_are_laid_out_as_in_c() {
+    layout!(ResourceName, 24, 8, text 0, number 16, kind 20);
+    layout!(Resource, 104, 8, kind 0, name 24, language 48, bytes 72, rva 88, size 92,
+        code_page 96);
+    layout!(VersionInfo, 36, 4, file_version 0, product_version 8, flags_mask 16, flags 20,
+        system 24, kind 28, subkind 32);
+    layout!(VersionText, 48, 8, table 0, key 16, value 32);
+}
+
+#[test]
 fn the_records_of_what_a_file_says_of_itself_are_laid_out_as_in_c() {
     layout!(CheckSums, 8, 4, written 0, computed 4);
     layout!(Certificate, 32, 8, offset 0, bytes 8, length 24, revision 28, kind 30);

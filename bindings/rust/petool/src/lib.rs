@@ -35,6 +35,7 @@ mod headers;
 mod image;
 mod object;
 mod opened;
+mod resources;
 mod rows;
 mod set;
 mod space;
@@ -52,9 +53,10 @@ pub use opened::OpenImage;
 #[doc(inline)]
 pub use petool_sys::{
     Binding, CheckSums as CheckSum, DebugEntry, Directory, Fixup, Function, Moved, ObjectHeader,
-    ObjectRelocation as Relocation, OverlayRange as Overlay, RichPair, SectionHeader, TlsDirectory,
+    ObjectRelocation as Relocation, OverlayRange as Overlay, RichPair, SectionHeader, TlsDirectory, VersionInfo,
 };
 // end of describe/records.txt
+pub use resources::{Resource, ResourceName, Utf16, VersionString};
 pub use set::{judge, unbound, Entry, Policy, UnboundImport};
 pub use space::{Placed, Space};
 pub use tables::{Import, Key, Tables, Target};

@@ -6,4 +6,4 @@ returns g c =
     let findings = rw c.requires.found at c.write_findings.ensures in
     let trust = rw c.headers.ensures at c.write_trust.ensures in
     let hash = rw c.requires.imported at c.write_import_hash.ensures in
-    also _ _ c.write_records.ensures (also _ _ trust (also _ _ hash findings))
+    also _ _ c.write_records.ensures (also _ _ c.write_resources.ensures (also _ _ trust (also _ _ hash findings)))

@@ -77,29 +77,27 @@ pub returns-clause-reads : goal.returns-clause-reads
 returns-clause-reads g c =
     let h = c.args.headers.now in
     let old = c.args.bytes.now.items in
+    let mid = c.read_size.new.bytes.items in
     let e1 = c.in_ok-size.ensures.reads in
     let s1 = rw c.in-Some.is at e1.2.1 in
-    let e2 = c.in_ok-read_range.ensures.reads in
+    let e2 = c.in_ok-read_table.ensures.reads in
     let all = e2.2.1 c.if-not-branch.false in
-    let new = c.read_range.new.bytes.items in
-    let sized : vec_len c.read_size.new.bytes ≡ length old = (let l : vec_len c.read_size.new.bytes ≡ length c.read_size.new.bytes.items = search rules in l) ∙ ap (λ (l : List ℕ). length l) s1.0 in
-    let long : length new ≡ vec_len c.read_range.new.bytes = search rules in
+    let new = c.read_table.new.bytes.items in
+    let sized : length mid ≡ length old = ap (λ (l : List ℕ). length l) s1.0 in
     let pointer : c.in-Ok-try_from.pointer ≡ length old = c.in-Ok-try_from.ensures.1 ∙ c.len.ensures ∙ (let l : vec_len c.args.bytes.now ≡ length old = search rules in l) in (
       e1.0 ++ e2.0,
       e2.1 ∙ ap (λ (ps : List Part). ps ++ e2.0) e1.1 ∙ append_assoc (g.R.PartSource.parts c.args.reader.now) e1.0 e2.0,
       (
         e2.2.0 ∙ e1.2.0,
         (
-          omega (arith, long, all.0, sized),
-          rw sized at (all.1 ∙ s1.0),
+          omega (arith, all.0, sized),
+          rw sized at (all.2 ∙ s1.0),
           λ file size has.
               let first = all_first (HasPart file) e1.0 e2.0 has in
               let rest = all_rest (HasPart file) e1.0 e2.0 has in
               let start : c.in-Ok.offset ≡ strings_start h = c.in-Ok.ensures.1 ∙ c.strings_start-start.ensures.value in
-              names_same file new h c.in-Ok-try_from.pointer c.in-Some.size c.max-count.result
-              (omega arith) (omega arith) (omega arith) (omega arith)
-              (ap (λ p. num (byte_of file) p 4) (sym start) ∙ s1.1 file first)
-              (omega arith) (omega arith) (λ k lt. ap (λ (n : ℕ). byte_of new (n + k)) (pointer ∙ sym sized) ∙ all.2 file rest k lt ∙ ap (λ (n : ℕ). byte_of file (n + k)) start),
+              let told : strings_size file h ≡ c.in-Some.size = ap (λ p. num (byte_of file) p 4) (sym start) ∙ s1.1 file first in
+              rw pointer (rw sized at (all.3 file rest (omega (arith, told, c.max-count.ensures)) (omega (arith, size, start, c.if-start-from.false, c.from.ensures, c.strings_start-start.ensures.value, c.max-count.ensures)))),
         ),
       ),
     )
@@ -108,4 +106,4 @@ pub returns-then-not-branch-clause-left : goal.returns-then-not-branch-clause-le
 returns-then-not-branch-clause-left g c =
     let e1 = c.in_ok-size.ensures.reads in
     let within : c.in-Ok.offset + c.max-count.result ≤ c.args.len = omega (arith, c.in-Ok.ensures.1, c.if-start-len.false, c.if-start-from.false, c.from.ensures, c.max-count.ensures) in
-    inl (early_on _ _ _ _ e1.0 e1.1 (early_within _ _ _ _ within (c.in_ok-read_range.ensures.early c.if-not-branch.true)))
+    inl (early_on _ _ _ _ e1.0 e1.1 (early_within _ _ _ _ within (c.in_ok-read_table.ensures.early c.if-not-branch.true)))

@@ -1,6 +1,5 @@
 use Rattle.std.proofs.Common.{◌≡◌, ◌+◌, ◌-◌, ◌≤◌, ◌++◌, ℕ, List, take, vec_len}
-use Rattle.pe_reach.specs.Parts.{Part, HasParts}
-use Rattle.pe_reach.proofs.PartBytes.{Stand}
+use Rattle.pe_reach.specs.Parts.{Part, HasParts, Stand}
 use Rattle.pe_reach.proofs.parts_reading.read_range.Given as goal
 
 abbrev pub invariant-loop-filled : goal.invariant-loop-filled

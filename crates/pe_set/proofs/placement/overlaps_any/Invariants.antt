@@ -1,6 +1,6 @@
 use Rattle.std.proofs.Common.{◌≡◌, drop, map}
 use Rattle.std.specs.List.{list_any}
-use Rattle.pe_tables.specs.Ranges.{meets}
+use Rattle.pe_ranges.specs.Ranges.{meets}
 use Rattle.pe_set.specs.Placement.{Placement}
 use Rattle.pe_set.proofs.placement.overlaps_any.Given as goal
 

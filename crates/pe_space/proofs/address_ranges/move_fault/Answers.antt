@@ -2,7 +2,7 @@ use Rattle.std.proofs.Common.{◌∙◌, true, false, length, map, ap, sym, arit
 use Rattle.std.proofs.lemmas.List.{length-map}
 use borrow.Author.Tests.{ltb-true}
 use Rattle.std.specs.List.{list_any}
-use Rattle.pe_tables.specs.Ranges.{meets}
+use Rattle.pe_ranges.specs.Ranges.{meets}
 use Rattle.pe_set.specs.Placement.{Placement, others_than}
 use Rattle.pe_space.proofs.Asked.{own_at, move_asked, base_alone_some, base_alone_none, base_room}
 use Rattle.pe_space.proofs.address_ranges.move_fault.Goals as goal

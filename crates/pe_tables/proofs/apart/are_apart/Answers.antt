@@ -1,7 +1,7 @@
 -- Ranges that rise have nothing in common, in whatever order.
 use Rattle.std.proofs.Common.{ℕ, inl, inr}
 use Rattle.std.proofs.lemmas.List.Sorted.{IsPermutation-sym}
-use Rattle.pe_tables.specs.Ranges.{AreApart}
+use Rattle.pe_ranges.specs.Ranges.{AreApart}
 use Rattle.pe_tables.proofs.Unordered.{all_pairs-permutation}
 use Rattle.pe_tables.proofs.apart.are_apart.Goals as goal
 

@@ -3,8 +3,8 @@ use Rattle.std.proofs.Common.{ℕ, ◌+◌, ◌≤◌, List, [], ◌∷◌, get_
 use Rattle.std.specs.Prelude.{AllPairs}
 use Rattle.std.proofs.lemmas.List.{take_all, take_more}
 use Rattle.std.proofs.lemmas.List.Elements.{All-append, All-cons, All-nil}
-use Rattle.pe_tables.specs.Ranges.{range_end}
-use Rattle.pe_tables.proofs.Pairs.{AllPairs-snoc}
+use Rattle.pe_ranges.specs.Ranges.{range_end}
+use Rattle.pe_ranges.proofs.Pairs.{AllPairs-snoc}
 use Rattle.pe_tables.proofs.apart.is_rising.Goals as goal
 
 pub loop-range-preserved : goal.loop-range-preserved

@@ -1,6 +1,6 @@
 use Rattle.std.proofs.Common.{◌≤◌, take}
 use Rattle.std.specs.Prelude.{All, AllPairs}
-use Rattle.pe_tables.specs.Ranges.{range_end}
+use Rattle.pe_ranges.specs.Ranges.{range_end}
 use Rattle.pe_tables.proofs.apart.is_rising.Given as goal
 
 abbrev pub invariant-loop-range : goal.invariant-loop-range

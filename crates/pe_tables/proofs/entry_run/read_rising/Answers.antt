@@ -2,7 +2,7 @@
 use Rattle.std.proofs.Common.{◌≡◌, ◌∙◌, ℕ, ◌+◌, ◌≤◌, ◌/◌, List, [], ◌∷◌, subst, arith, sym, ap}
 use Rattle.std.specs.Prelude.{option_to_list}
 use Rattle.pe_layout.specs.Layout.{image_of}
-use Rattle.pe_tables.specs.RangesView.{ranges_in}
+use Rattle.pe_ranges.specs.RangesView.{ranges_in}
 use Rattle.pe_tables.specs.Fixups.{Entry, entry_of, width_of}
 use Rattle.pe_tables.specs.Encoded.{type_of}
 use Rattle.pe_tables.specs.FixupReading.{Reads}

@@ -6,7 +6,7 @@ use Rattle.pe_view.specs.Faults.{first_standing}
 use Rattle.pe_view.specs.Number.{num, byte_of}
 use Rattle.pe_view.specs.View.{bytes_of, size_of}
 use Rattle.pe_layout.specs.Layout.{image_of}
-use Rattle.pe_tables.specs.RangesView.{ranges_in}
+use Rattle.pe_ranges.specs.RangesView.{ranges_in}
 use Rattle.pe_tables.specs.Fixups.{Entry, entry_of, entries_at, fixup_of}
 use Rattle.pe_tables.specs.FixupFaults.{entries_tests}
 use Rattle.pe_tables.specs.declared.fixups.Fixup.{Fixup}

@@ -1,7 +1,7 @@
 use Rattle.std.proofs.Common.{◌≡◌, ◌/◌, None}
 use Rattle.pe_view.specs.View.{size_of}
 use Rattle.pe_layout.specs.Layout.{image_of}
-use Rattle.pe_tables.specs.RangesView.{ranges_in}
+use Rattle.pe_ranges.specs.RangesView.{ranges_in}
 use Rattle.pe_tables.specs.Fixups.{entries_at}
 use Rattle.pe_tables.specs.FixupReading.{Keeps, ReadsUpTo}
 use Rattle.pe_tables.proofs.entry_run.read_run.Given as goal

@@ -2,7 +2,7 @@ use Rattle.std.proofs.Common.{◌≡◌, ◌-◌, ◌≤◌, ◌++◌, drop}
 use Rattle.std.specs.List.{filter_map}
 use Rattle.pe_view.specs.Faults.{first_standing}
 use Rattle.pe_layout.specs.Layout.{image_of}
-use Rattle.pe_tables.specs.RangesView.{ranges_in}
+use Rattle.pe_ranges.specs.RangesView.{ranges_in}
 use Rattle.pe_tables.specs.Fixups.{block_at, entries_of, fixup_of, fixups_in}
 use Rattle.pe_tables.specs.FixupFaults.{entries_tests}
 use Rattle.pe_tables.specs.FixupReading.{IsIndexed, IsSettled, Keeps}

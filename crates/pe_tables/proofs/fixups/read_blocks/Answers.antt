@@ -5,7 +5,7 @@ use Rattle.std.proofs.lemmas.Bool.{ltb-false, or_parts}
 use Rattle.std.proofs.lemmas.Result.{err_from_is_err_and}
 use Rattle.pe_view.specs.Faults.{first_standing}
 use Rattle.pe_layout.specs.Layout.{image_of}
-use Rattle.pe_tables.specs.RangesView.{ranges_in}
+use Rattle.pe_ranges.specs.RangesView.{ranges_in}
 use Rattle.pe_tables.specs.Fixups.{Block, block_at, blocks_from, blocks_of, entries_of, fixups_in}
 use Rattle.pe_tables.specs.FixupFaults.{is_bad_size, entries_tests, blocks_tests}
 use Rattle.pe_tables.specs.declared.fixups.Fixup.{Fixup}

@@ -2,7 +2,7 @@ use Rattle.std.proofs.Common.{◌≡◌, ◌-◌, ◌≤◌, ◌++◌, [], Some}
 use Rattle.std.specs.List.{flat_map}
 use Rattle.pe_view.specs.Faults.{first_standing}
 use Rattle.pe_layout.specs.Layout.{image_of}
-use Rattle.pe_tables.specs.RangesView.{ranges_in}
+use Rattle.pe_ranges.specs.RangesView.{ranges_in}
 use Rattle.pe_tables.specs.Fixups.{blocks_from, blocks_of, fixups_in, fixups_at}
 use Rattle.pe_tables.specs.FixupFaults.{blocks_tests}
 use Rattle.pe_tables.specs.FixupReading.{IsIndexed, IsSettled, Keeps}

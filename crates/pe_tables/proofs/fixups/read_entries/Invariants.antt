@@ -3,7 +3,7 @@ use Rattle.std.specs.List.{filter_map}
 use Rattle.pe_view.specs.Faults.{first_standing}
 use Rattle.pe_view.specs.View.{size_of}
 use Rattle.pe_layout.specs.Layout.{image_of}
-use Rattle.pe_tables.specs.RangesView.{ranges_in}
+use Rattle.pe_ranges.specs.RangesView.{ranges_in}
 use Rattle.pe_tables.specs.Fixups.{entries_at, fixup_of}
 use Rattle.pe_tables.specs.FixupFaults.{entries_tests}
 use Rattle.pe_tables.specs.FixupReading.{IsIndexed, IsSettled, Keeps}

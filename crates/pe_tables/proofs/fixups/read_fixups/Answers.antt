@@ -7,8 +7,8 @@ use Rattle.pe_view.specs.Faults.{first_standing}
 use Rattle.pe_head.specs.declared.directory.Directory.{Directory}
 use Rattle.pe_layout.specs.Image.{is_inside}
 use Rattle.pe_layout.specs.Layout.{image_of}
-use Rattle.pe_tables.specs.Ranges.{SameRanges}
-use Rattle.pe_tables.specs.RangesView.{ranges_in}
+use Rattle.pe_ranges.specs.Ranges.{SameRanges}
+use Rattle.pe_ranges.specs.RangesView.{ranges_in}
 use Rattle.pe_tables.specs.FirstBlock.{FirstBlock}
 use Rattle.pe_tables.specs.TableFaults.{goes_past}
 use Rattle.pe_tables.specs.Fixups.{blocks_of, fixups_in, fixups_at, slot_range}

@@ -1,6 +1,6 @@
 use Rattle.std.proofs.Common.{◌≡◌, ℕ, Bool, take}
 use Rattle.std.specs.List.{list_any}
-use Rattle.pe_tables.specs.RangesView.{ranges_in}
+use Rattle.pe_ranges.specs.RangesView.{ranges_in}
 use Rattle.pe_tables.specs.Fixups.{slot_range}
 use Rattle.pe_tables.proofs.fixups.slot_ranges.Given as goal
 

@@ -1,9 +1,9 @@
 -- The ranges that are there gain the field's bytes.
 use Rattle.std.proofs.Common.{◌≡◌, ℕ, Option, Some, Ok, Err, Result, refl}
 use Rattle.std.specs.Prelude.{OnOk}
-use Rattle.pe_tables.specs.Ranges.{Gains}
-use Rattle.pe_tables.specs.RangesView.{ranges_in}
-use Rattle.pe_tables.specs.declared.ranges.Ranges.{Ranges}
+use Rattle.pe_ranges.specs.Ranges.{Gains}
+use Rattle.pe_ranges.specs.RangesView.{ranges_in}
+use Rattle.pe_ranges.specs.declared.ranges.Ranges.{Ranges}
 use Rattle.pe_tables.specs.FixupReading.{GainsAny}
 use Rattle.pe_tables.proofs.found_fixups.add_field.Goals as goal
 

@@ -3,7 +3,7 @@ use Rattle.std.proofs.Common.{◌≡◌, ℕ, ◌+◌, None, Option, refl, arith
 use Rattle.std.specs.Prelude.{max}
 use Rattle.pe_tables.specs.Fixups.{width_of, range_of}
 use Rattle.pe_tables.specs.FixupReading.{GainsAny}
-use Rattle.pe_tables.specs.declared.ranges.Ranges.{Ranges}
+use Rattle.pe_ranges.specs.declared.ranges.Ranges.{Ranges}
 use Rattle.pe_tables.proofs.RisingFields.{reads-more}
 use Rattle.pe_tables.proofs.Settled.{keeps-none, still-indexed}
 use Rattle.pe_tables.proofs.found_fixups.FoundFixups.add_behind.Goals as goal

@@ -2,7 +2,7 @@
 use Rattle.std.proofs.Common.{◌∙◌, not}
 use Rattle.std.specs.Prelude.{◌==◌}
 use Rattle.std.proofs.lemmas.List.Folds.{list_any_none}
-use Rattle.pe_tables.specs.RangesView.{ranges_in}
+use Rattle.pe_ranges.specs.RangesView.{ranges_in}
 use Rattle.pe_tables.specs.Imports.{Import}
 use Rattle.pe_tables.specs.ImportFaults.{range_of}
 use Rattle.pe_tables.specs.ImportReading.{read_of}

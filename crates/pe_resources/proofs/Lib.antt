@@ -1,0 +1,11 @@
+pub mod Ascending
+pub mod Asked
+pub mod Costs
+pub mod Entries
+pub mod Held
+pub mod Numbers
+pub mod Plain
+pub mod Rows
+pub mod Steps
+pub mod Sums
+pub mod TreeRows

@@ -1,0 +1,3 @@
+mod FewStrings
+mod Filled
+mod Keys

@@ -1,0 +1,5 @@
+pub mod Kinds
+pub mod ResourceFindings
+pub mod ResourceRows
+pub mod Texts
+pub mod VersionRows

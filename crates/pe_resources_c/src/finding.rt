@@ -1,0 +1,69 @@
+//! The findings of an image's tables: those of its resources, and those of the other tables beyond the profile.
+
+ghost use Rattle.std.specs.Prelude.{◌≡◌, ◌≢◌, ◌⊎◌, [], None, IfOk, OnErr};
+ghost use Rattle.pe_layout.specs.Layout.{headers_of, image_of};
+ghost use Rattle.pe_records.specs.FindingTests.{finding_tests};
+ghost use Rattle.pe_records.specs.Standing.{standing};
+ghost use Rattle.pe_view.specs.View.{bytes_of};
+ghost use Rattle.pe_resources_c.specs.ResourceFindings.{resource_findings, version_found};
+
+use pe_layout::Layout;
+use pe_records::findings;
+use pe_resources::{leaf_data, leaves, version};
+use pe_version::version_findings;
+use pe_view::{Fault, View};
+use std::alloc::{AllocError, Global};
+
+/// The findings of an image's tables.
+#[derive(Drop)]
+pub struct TableFindings {
+    /// Those of its resources.
+    pub resources: Vec<Fault, Global>,
+    /// Those of its other tables beyond the profile.
+    pub others: Vec<Fault, Global>,
+}
+
+/// The findings of an image's version information, if it has any that the file holds in one run.
+fn version_found(alloc: Global, layout: &Layout) -> Result<Vec<Fault, Global>, AllocError>
+    ensures all { IfOk result (λ findings. findings.items ≡ version_found (image_of layout.now)) }
+    ensures memory { OnErr result ((image_of layout.now).directory 2 ≢ None) }
+{
+    let Some(leaf) = version(layout) else {
+        return Ok(Vec::new(alloc));
+    };
+    let Some(bytes) = leaf_data(layout, &leaf) else {
+        return Ok(Vec::new(alloc));
+    };
+    let is_held = bytes.len() <= layout.raw_bytes(leaf.rva).len();
+    prove!(is_held);
+    version_findings(alloc, layout.image(), leaf.rva, bytes)
+}
+
+/// The findings of an image's resources.
+fn resource_findings(alloc: Global, layout: &Layout) -> Result<Vec<Fault, Global>, AllocError>
+    ensures all { IfOk result (λ findings. findings.items ≡ resource_findings (image_of layout.now)) }
+    ensures memory { OnErr result ((image_of layout.now).directory 2 ≢ None) }
+{
+    let tree = leaves(alloc, layout)?;
+    let mut findings = tree.findings;
+    let found = version_found(alloc, layout)?;
+    findings.extend_from_slice(found.as_slice())?;
+    Ok(findings)
+}
+
+/// The findings of an image's tables. The error is want of memory, which comes only if the image has a resource directory, or another
+/// of these tables has a finding. `file` is the file that the image was laid out of.
+pub fn table_findings(
+    alloc: Global,
+    layout: &Layout,
+    file: View,
+) -> Result<TableFindings, AllocError>
+    ensures resources { IfOk result (λ found. found.resources.items ≡ resource_findings (image_of layout.now)) }
+    ensures others { IfOk result (λ found. found.others.items ≡ standing (finding_tests (headers_of layout.now).machine (image_of layout.now) (bytes_of file.entry))) }
+    ensures memory { OnErr result (((image_of layout.now).directory 2 ≢ None)
+        ⊎ (standing (finding_tests (headers_of layout.now).machine (image_of layout.now) (bytes_of file.entry)) ≢ [])) }
+{
+    let resources = resource_findings(alloc, layout)?;
+    let others = findings(alloc, layout, file)?;
+    Ok(TableFindings { resources, others })
+}

@@ -1,0 +1,6 @@
+pub mod Characters
+pub mod Reaching
+pub mod Rows
+pub mod Stepping
+pub mod TestsFound
+pub mod Zeros

@@ -1,0 +1,15 @@
+pub use Rattle.pe_view.specs.Faults
+pub use Rattle.pe_view.specs.Number
+pub use Rattle.pe_view.specs.View
+pub use Rattle.pe_records.specs.Standing
+pub mod Block
+pub mod Blocks
+pub mod Findings
+pub mod FixedInfo
+pub mod Parts
+pub mod Root
+pub mod Steps
+pub mod Strings
+pub mod StringsLeft
+pub mod Units
+pub mod UnitsLeft
