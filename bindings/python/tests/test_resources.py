@@ -60,7 +60,7 @@ FOUND = [
     (189, image(tree([("B", leaf(b"a")), ("A", leaf(b"b"))])), RVA),
     (189, image(tree([(3, leaf(b"a")), ("A", leaf(b"b"))])), RVA),
     (211, with_version(version(fixed=FIXED[4:])), AT),
-    (211, with_version(bytes(60)), AT),
+    (211, with_version(struct.pack("<HHH", 60, 0, 0) + bytes(54)), AT),
     (212, with_version(struct.pack("<H", 0xFFFF) + version()[2:]), AT),
     (212, with_version(block("VS_VERSION_INFO", FIXED, [block("StringFileInfo", children=[struct.pack("<HHH", 8, 0, 1)])], kind=0)),
      AT + 0x5C + 0x24),
