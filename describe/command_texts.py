@@ -18,11 +18,12 @@ STATUSES = "crates/pe_program/src/statuses.rt"
 ONE_LINE = 60
 #: The source that has the purpose of each command for help, and what comes before the string.
 PURPOSES = {
-    **{name: ("file_words.rt", rf'name: "{name}",\s+about: ') for name in ("show", "check", "dump", "object", "json", "sum")},
+    **{name: ("file_words.rt", rf'name: "{name}",\s+about: ') for name in ("show", "check", "dump", "object", "archive", "json", "sum")},
     "at": ("at_words.rt", r"const AT_ABOUT: &str =\s+"),
     "map": ("map_words.rt", r"const ABOUT: &str =\s+"),
     "rebase": ("rebase_words.rt", r"const ABOUT: &str =\s+"),
     "explain": ("at_words.rt", r"const EXPLAIN_ABOUT: &str =\s+"),
+    "resource": ("resource_words.rt", r"const ABOUT: &str =\s+"),
 }
 #: The same for what help says of each option, except those of `show` that add rows.
 OPTIONS = {
@@ -33,6 +34,7 @@ OPTIONS = {
     "most": ("file_words.rt", r"const MOST: &str =\s+"),
     "address": ("at_words.rt", r"const ADDRESS: &str =\s+"),
     "file": ("at_words.rt", r"const OFFSET: &str =\s+"),
+    "raw": ("resource_words.rt", r"const RAW: &str =\s+"),
     "check-sum": ("rebase_words.rt", r"const CHECK_SUM: &str =\s+"),
     "known": ("map_words.rt", r"const KNOWN: &str =\s+"),
     "unbound": ("map_words.rt", r"const UNBOUND: &str =\s+"),
@@ -199,7 +201,7 @@ FILES: Dict[str, Callable[[Commands, str], str]] = {
     "crates/pe_bench/src/texts.rt": _whole_page,
     f"{WORDS}/commands.rt": _notes,
     f"{WORDS}/file_words.rt": _file_words,
-    **{f"{WORDS}/{file}": _words(file) for file in ("at_words.rt", "map_words.rt", "rebase_words.rt")},
+    **{f"{WORDS}/{file}": _words(file) for file in ("at_words.rt", "map_words.rt", "rebase_words.rt", "resource_words.rt")},
 }
 #: The parts that a page must have.
 PARTS = {README: ["commands", "statuses"], GUIDE: ["commands", "statuses"], MAN: ["synopses", "commands", "statuses"]}

@@ -1,4 +1,5 @@
-"""What is written from the faults: the tables of docs/FAULTS.md, and the tables RULES, EXPLAINED and FINDINGS_EXPLAINED of the sources.
+"""What is written from the faults: the tables of docs/FAULTS.md, and the tables RULES, FINDING_RULES, EXPLAINED and
+FINDINGS_EXPLAINED of the sources.
 
 These two have no comments in their sources, from `static NAME` to `];`, and the layout of `rt fmt`: a source that changes must be
 proved again, so one that agrees stays the same to the byte.
@@ -46,12 +47,15 @@ def _explained(it: Fault) -> List[str]:
     return [more, _literal(it.rows["met by"])]
 
 
-#: The numbers of all, of faults, and of findings.
-ALL, FAULTS, FINDINGS = range(1, 1 << 16), range(1, 101), range(101, 1 << 16)
+#: The numbers of faults and of findings.
+FAULTS, FINDINGS = range(1, 101), range(101, 1 << 16)
 #: The tables of each source: the name, the type of a row, the words of one after its number, and the numbers in it.
 Table = Tuple[str, str, Callable[[Fault], List[str]], range]
 TABLES: Dict[str, List[Table]] = {
-    "crates/pe_text/src/fault_text.rt": [("RULES", "(u16, &str, &str)", _rules, ALL)],
+    "crates/pe_text/src/fault_text.rt": [
+        ("RULES", "(u16, &str, &str)", _rules, FAULTS),
+        ("FINDING_RULES", "(u16, &str, &str)", _rules, FINDINGS),
+    ],
     "crates/pe_program/src/explain.rt": [
         ("EXPLAINED", "Explained", _explained, FAULTS),
         ("FINDINGS_EXPLAINED", "Explained", _explained, FINDINGS),

@@ -1,6 +1,7 @@
 #!/usr/bin/env python3
 """Compares what the package petool for Python says of signed images with osslsigncode: CheckSum, the digest that the signature signs, the
-digest of the file, and the certificates of the signature.
+digest of the file, and the certificates of the signature; and of all images, signed or not, the SHA-256 digest that a signature would
+sign with pesign, if that is there.
 
     digests.py PATH...
 
@@ -11,6 +12,7 @@ counts the files. Needs osslsigncode, and the package on PYTHONPATH with its lib
 
 import collections
 import re
+import shutil
 import subprocess
 import sys
 
@@ -44,6 +46,18 @@ def ours(trust):
     return list(trust.check_sum), [int.from_bytes(it, "big") for it in (first.digest, own)], {it.serial for it in first.signers}
 
 
+def compare_digest(path, digest):
+    """Compares the digest that a signature would sign with that of pesign."""
+    done = subprocess.run(["pesign", "-h", "-d", "sha256", "-i", path], stdout=subprocess.PIPE, stderr=subprocess.DEVNULL, text=True, check=False)
+    found = re.search(r"\b[0-9a-f]{64}\b", done.stdout)
+    if found is None:
+        return
+    COUNTS["by pesign"] += 1
+    if found[0] != (digest or b"").hex():
+        COUNTS["differences"] += 1
+        print(f"{path}: petool {digest and digest.hex()}, pesign {found[0]}")
+
+
 def compare(path):
     with open(path, "rb") as file:
         data = file.read()
@@ -53,6 +67,8 @@ def compare(path):
         COUNTS["refused"] += 1
         return
     with trust:
+        if shutil.which("pesign"):
+            compare_digest(path, trust.authenticode_digest("sha256"))
         if not any(it.algorithm for it in trust.authenticode):
             COUNTS["unsigned"] += 1
             return
@@ -72,7 +88,7 @@ def main(*paths):
     for path in paths:
         for file in images(path):
             compare(file)
-    print(", ".join(f"{COUNTS[it]} {it}" for it in ("files", "fit", "unsigned", "unread", "refused", "differences")))
+    print(", ".join(f"{COUNTS[it]} {it}" for it in ("files", "fit", "unsigned", "unread", "refused", "by pesign", "differences")))
     return COUNTS["differences"] > 0
 
 

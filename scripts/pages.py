@@ -25,6 +25,7 @@ sys.dont_write_bytecode = True
 
 from pages_names import (CLASSES, DIRECTORIES, DLL_FLAGS, FIXUPS, IMAGE_FLAGS, MACHINES, RELOCATIONS, SEARCHES,  # noqa: E402
                          SECTION_FLAGS, SELECTIONS, SUBSYSTEMS)
+import pages_resources  # noqa: E402
 import pages_tables  # noqa: E402
 import pages_trust  # noqa: E402
 from pages_reader import FIXUP_WIDTHS, Headers, Image, Object, Refused, is_object, uint  # noqa: E402
@@ -605,9 +606,11 @@ def image_place(file, image, options, place):
     words += " " + permissions(piece[2].flags) if piece and piece[2] else ""
     slots = [(module, key) for module, slot, key in image.imports or [] if slot <= rva < slot + (8 if image.wide else 4)]
     words += export_words(image, rva) + (f"  slot of {shown(slots[0][0])} {key_words(slots[0][1])}" if slots else "") + field_words(image, rva)
-    words += pages_tables.function_words(pages_tables.Tables(image, file), rva)
+    tables = pages_tables.Tables(image, file)
+    words += pages_tables.function_words(tables, rva)
     row = row_words(file, image, rva)
-    return f"{where(image.headers, rva, offset, words)}{'  ' + row if row else ''}\n  {image.bytes[rva : rva + 16].hex(' ')}\n"
+    leaf = pages_resources.place_words(tables.resources, rva, UNSAFE)
+    return f"{where(image.headers, rva, offset, words)}{'  ' + row if row else ''}{leaf}\n  {image.bytes[rva : rva + 16].hex(' ')}\n"
 
 
 def place_by_headers(file, headers, options, place):

@@ -317,3 +317,9 @@ def rows(resources, shown, unsafe):
     yield from tree_rows(resources, unsafe)
     yield from version_rows(resources, shown)
     yield from manifest_rows(resources, unsafe)
+
+
+def place_words(resources, rva, unsafe):
+    """The first leaf whose data have an RVA."""
+    found = next((leaf for leaf in resources.leaves if leaf.rva <= rva < leaf.rva + leaf.size), None)
+    return f"  in leaf {path_words(resources, found, unsafe)} +0x{rva - found.rva:x}" if found else ""

@@ -304,10 +304,10 @@ def summary(tables, index, shown):
 
 
 def identity_rows(tables, shown):
-    pdb, version = tables.pdb(), tables.resources.version
-    if pdb or version and version[1] is not None:
+    pdb, rows = tables.pdb(), list(pages_resources.identity_rows(tables.resources, shown))
+    if pdb or rows:
         yield "\nIdentity"
-    yield from pages_resources.identity_rows(tables.resources, shown)
+    yield from rows
     if pdb is None:
         return
     kind, raw, age, path = pdb

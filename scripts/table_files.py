@@ -21,7 +21,7 @@ TOGETHER = "**together**"
 FILE = re.compile(r"`([^`]+)`(\\\*)?")
 #: A part of a file that is written, from one comment to the other, and a table that is written without comments.
 WRITTEN = re.compile(r"^.*\bfrom (?:describe/|the laws of).*$(?s:.*?)^.*\bend of (?:describe/|the laws of).*$", re.M)
-TABLE = re.compile(r"^static (?:RULES|EXPLAINED)\b(?s:.*?)^\];$", re.M)
+TABLE = re.compile(r"^static (?:RULES|FINDING_RULES|EXPLAINED|FINDINGS_EXPLAINED)\b(?s:.*?)^\];$", re.M)
 #: Files that are written whole, and proofs.
 WHOLE = re.compile(r"docs/(FILES\.md|crates\.svg)|bindings/c/(layout\.c|petool\.map)|.*\.symbols|.*/tests/layout\.rs|crates/\w+/proofs/.*")
 

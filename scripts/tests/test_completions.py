@@ -11,7 +11,7 @@ import unittest
 
 COMPLETIONS = pathlib.Path(__file__).resolve().parents[1] / "completions.py"
 PROGRAM = os.environ.get("PETOOL_PROGRAM")
-COMMANDS = ["at", "check", "dump", "explain", "help", "json", "map", "object", "rebase", "show", "sum"]
+COMMANDS = ["archive", "at", "check", "dump", "explain", "help", "json", "map", "object", "rebase", "resource", "show", "sum"]
 FILES = ["a file.dll", "a.dll", "b=1.dll", "b=2.dll", "d.dll"]
 # prints what bash would offer for words, of which the last is completed
 ASK = """source ./completion
@@ -110,7 +110,7 @@ class OtherShells(unittest.TestCase):
         self.assertIn("'1:HEX:' '2:IN:_files' '3:OUT:_files' ;;", zsh)
         self.assertIn("'1:FILE:_files' '*:ADDRESS:' ;;", zsh)
         self.assertIn("'*:HEX=FILE:{compset -P \"*=\" && _files}' ;;", zsh)
-        self.assertIn("'dump 0' 'at 0' 'object 0' 'json *' 'sum *' 'rebase 1' 'rebase 2'\n", fish)
+        self.assertIn("'dump 0' 'at 0' 'resource 0' 'object 0' 'archive 0' 'json *' 'sum *' 'rebase 1' 'rebase 2'\n", fish)
         self.assertIn("__fish_seen_subcommand_from map' -l window -x ", fish)
         self.assertIn(":WHEN:(auto always never)'", zsh)
         self.assertIn("__fish_seen_subcommand_from show' -l color -x -a 'auto always never' ", fish)

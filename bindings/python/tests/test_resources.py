@@ -1,8 +1,10 @@
-"""Resources on pages, and each finding on them by a file of its own."""
+"""Resources on pages, at places, and as `petool resource` lists and writes them; and each finding on them by a file of its own."""
 
 import struct
+import subprocess
 import unittest
 
+from .cases import run
 from .files import numbers
 from .finding_pages import PROGRAM, FindingPages
 from .trees import FIXED, RVA, TEXT, block, directory, image, leaf, string, tree, version, wide
@@ -97,6 +99,16 @@ class Resources(FindingPages, unittest.TestCase):
                 (row,) = self.parts(file)["Tables (1)"]
                 self.assertTrue(row.endswith(f"   .data          {summary}"), row)
 
+    def test_version_information_that_tells_nothing_gives_no_identity(self):
+        for file in (with_version(version(fixed=FIXED[4:])), with_version(version(string("Comments", "C"), fixed=b"")), with_version(b"")):
+            self.assertNotIn("Identity", self.parts(file))
+        for row, file in [
+            ("  Company      W", with_version(version(string("CompanyName", "W"), fixed=b""))),
+            ("  Product      P", with_version(version(string("ProductName", "P"), fixed=b""))),
+            ("  Version      1.2.3.4, of the product 5.6.7.8", with_version(version())),
+        ]:
+            self.assertEqual(self.parts(file)["Identity"], [row])
+
     def test_the_parts_of_a_page(self):
         parts = self.parts(NAMED, "--resources")
         self.assertEqual(parts["Identity"], ["  Product      P", "  Company      Wine", "  Version      1.2.3.4, of the product 5.6.7.8"])
@@ -134,10 +146,94 @@ class Resources(FindingPages, unittest.TestCase):
             "  <?xml version='1.0'?>", "  <assembly>", "  \t<a b=\"c\"/>", "  \"\\x1b[0m</assembly>\""])
         self.assertEqual(set(self.parts(NAMED)), set(parts) - {"Resources (9)", "Version information", "Manifest"})
 
+    def test_the_list(self):
+        done = self.petool(NAMED, "resource", "a")
+        self.assertEqual((done.stderr, done.returncode), (b"", 0))
+        self.assertEqual(done.stdout.decode().split("\n"), [
+            "TEXT/ONE/1033 rva 0x00001264 size 0x00000003 code-page 1252",
+            "TEXT/ONE/32792 rva 0x00001268 size 0x00000004 code-page 0",
+            "TEXT/7/9 rva 0x0000126c size 0x00000007 code-page 0",
+            "\"TYPE LIB\"/\"x/y\"/0 rva 0x00001274 size 0x00000003 code-page 0",
+            "icon/1/1033 rva 0x00001278 size 0x00000028 code-page 0",
+            "icon/2/1031 rva 0x000012a0 size 0x00000005 code-page 0",
+            "version/1/1033 rva 0x000012a8 size 0x00000180 code-page 0",
+            "manifest/2/0 rva 0x00001428 size 0x00000043 code-page 0",
+            "300/9/1041 rva 0x0000146c size 0x00000001 code-page 0",
+            "",
+        ])
+
+    def test_a_leaf_that_is_not_at_the_third_level(self):
+        file = image(directory((TEXT | 0x40, 0x18), texts=1) + data_entry(RVA, 2) + bytes(26))
+        self.assertEqual(self.petool(file, "resource", "a").stdout, b"\"\" rva 0x00001000 size 0x00000002 code-page 0\n")
+        self.assertEqual(self.parts(file, "--resources")["Resources (1)"], ["  \"\"", "    -  -  0x001000  2 bytes"])
+
+    def test_the_bytes_of_a_leaf(self):
+        for word, data in [
+            ("TEXT", b"one"), ("TEXT/ONE/32792", b"eins"), ("TEXT//9", b"sieben!"), ("TEXT/7", b"sieben!"), ("/7", b"sieben!"), ("", b"one"),
+            ("\"TEXT\"", b"one"), ("version", VERSION), ("VERSION/1/1033", VERSION), ("16", VERSION), ("24", MANIFEST), ("manifest", MANIFEST),
+            ("icon/2", bytes(5)), ("icon//1031", bytes(5)), ("3/1", b"\x28" + bytes(39)), ("300", b"?"), ("TYPE LIB", b"abc"), ("//1041", b"?"),
+        ]:
+            with self.subTest(word):
+                done = self.petool(NAMED, "resource", "a", word)
+                self.assertEqual((done.stdout, done.stderr, done.returncode), (data, b"", 0))
+
+    def test_a_leaf_that_is_not_there(self):
+        for word in ["bitmap", "TEXT/1", "text", "\"16\"", "version/1/1031", "icon/ONE"]:
+            with self.subTest(word):
+                done = self.petool(NAMED, "resource", "a", word)
+                self.assertEqual((done.stdout, done.stderr, done.returncode), (b"", b"petool: a: there is no such resource\n", 2))
+        done = self.petool(NAMED, "resource", "a", "version/1/1033/4")
+        self.assertEqual((done.stdout, done.returncode), (b"", 2))
+        done = self.petool(image(LEAF + data_entry(RVA, 0x59)), "resource", "a", "1")
+        self.assertEqual((done.stdout, done.stderr, done.returncode), (b"", b"petool: a: the resource is not in the file\n", 1))
+        self.assertEqual(self.petool(image(LEAF + data_entry(RVA, 0x58)), "resource", "a", "1").stdout, LEAF + data_entry(RVA, 0x58))
+
+    def test_a_refused_file(self):
+        cut = NAMED[:-1]
+        done = self.petool(cut, "resource", "a")
+        self.assertEqual((done.stdout, done.returncode), (b"fault 13 image 0 file 0x00000138\n", 1))
+        self.assertTrue(done.stderr.startswith(b"petool: a: section header at 0x138: "), done.stderr)
+        done = self.petool(cut, "resource", "a", "version")
+        self.assertEqual((done.stdout, done.returncode), (b"", 1))
+        self.assertTrue(done.stderr.startswith(b"petool: a: section header at 0x138: "), done.stderr)
+        done = self.petool(b"", "resource", "a")
+        self.assertEqual((done.stdout, done.returncode), (b"fault 2 image 0 file 0x00000000\n", 1))
+
+    def test_an_image_without_resources(self):
+        file = image(b"", size=0)[:0x200]
+        done = self.petool(file, "resource", "a")
+        self.assertEqual((done.stdout, done.returncode), (b"", 0))
+
+    def test_a_file_from_standard_input(self):
+        done = run([PROGRAM, "resource", "-", "300"], input=NAMED)
+        self.assertEqual((done.stdout, done.stderr, done.returncode), (b"?", b"", 0))
+
+    def test_an_output_that_fails(self):
+        (self.folder / "a").write_bytes(NAMED)
+        for words in (["resource", "a"], ["resource", "a", "version"]):
+            with self.subTest(words), open("/dev/full", "wb") as full:
+                done = subprocess.run([PROGRAM, *words], cwd=self.folder, stdout=full, stderr=subprocess.PIPE)
+                self.assertEqual(done.returncode, 3)
+                self.assertTrue(done.stderr.startswith(b"petool: standard output: "), done.stderr)
+
+    def test_the_leaf_at_a_place(self):
+        for place, told in [(0x1264, b"TEXT/ONE/1033 +0x0"), (0x1266, b"TEXT/ONE/1033 +0x2"), (0x1267, None), (0x12B4, b"version/1/1033 +0xc"),
+                            (0x1274, b"\"TYPE LIB\"/\"x/y\"/0 +0x0"), (0x146D, None), (0x1000, None)]:
+            with self.subTest(place):
+                first = self.petool(NAMED, "at", "a", f"{place:x}").stdout.split(b"\n")[0]
+                self.assertEqual(first.partition(b"  in leaf ")[2], told or b"")
+
     def test_hostile_trees_end(self):
         entries = 0x2000
         shared = directory(*((k, TEXT | 16 + 8 * entries) for k in range(entries))) + directory()
         self.assertEqual(len(self.parts(image(shared, image_size=0x100000))[f"Findings ({entries - 1:,})"]), entries - 1)
+
+    def test_texts_are_cut(self):
+        long = "n" * 300
+        file = image(tree([(long, leaf(b"a"))]))
+        self.assertEqual(self.petool(file, "resource", "a").stdout.split(b" ")[0], b"n" * 255 + b"../1/1033")
+        self.assertEqual(self.petool(file, "resource", "a", long).stdout, b"a")
+        self.assertEqual(wide("a"), b"a\0")
 
 
 if __name__ == "__main__":

@@ -1,3 +1,5 @@
+pub mod ArchiveRows
+pub mod ArchiveWalk
 pub mod ObjectLines
 pub mod ObjectPlaces
 pub mod ObjectRows

@@ -9,11 +9,15 @@
 //! let answer = dump_object(alloc, &mut reader, &mut writer);
 //! ```
 //!
-//! [`object_text`] writes the dump for a file that was read.
+//! [`object_text`] writes the dump for a file that was read. [`dump_archive`] and [`archive_text`] write the dump of an archive of such
+//! objects: a line for each member, and after it what these write of an object.
 #![tactic(auto)]
 
+mod archive_engine;
+mod archive_lines;
 mod engine;
 pub mod laws;
 mod object_lines;
 
+pub use archive_engine::{archive_text, dump_archive};
 pub use engine::{dump_object, object_text};

@@ -83,7 +83,7 @@ fn write_section<W: Sink>(line: &mut TextWriter<W>, number: u64, section: &FileS
 }
 
 /// Adds a space and a name, if there is one.
-fn write_name<W: Sink>(line: &mut TextWriter<W>, name: Option<&str>)
+pub(crate) fn write_name<W: Sink>(line: &mut TextWriter<W>, name: Option<&str>)
     requires { IsReady W.failures line.old }
     ensures { Adds W.taken W.failures line.old line.new (name_text (option_map (λ text. text.now) name.entry)) }
 {

@@ -10,6 +10,7 @@ ghost use Rattle.pe_page.specs.Page.{AddsSome};
 use crate::at_headers::write_by_headers;
 use crate::file_places::write_unlaid;
 use crate::header_places::header_row;
+use crate::leaf_place::write_leaf_at;
 use crate::row_name::{RowName, row_cells};
 use crate::spot::{OUTSIDE, Spot, offset_in_section};
 use crate::table_places::{is_within, table_row};
@@ -20,6 +21,7 @@ use pe_page::Cell::{self, Plain};
 use pe_page::{NOTHING, SectionNames, SectionPlace, outcome_of, permissions, write_cells};
 use pe_reach::{ViewFile, read_whole_tables};
 use pe_record_pages::function_cells;
+use pe_resources::{Leaf, leaves};
 use pe_tables::{Exports, Fixup, FixupKind, Import, Target};
 use pe_text::Part::{Decimal, Hex, Hex2, Text};
 use pe_text::{Outcome, Sink, TextWriter, refuse, write_parts};
@@ -251,6 +253,7 @@ fn write_at<A: Allocator + Copy, W: Sink>(
     text: &mut TextWriter<W>,
     layout: &Layout,
     tables: &Tables<A>,
+    leaves: &[Leaf],
     names: &SectionNames,
     rva: u32,
 )
@@ -281,6 +284,7 @@ fn write_at<A: Allocator + Copy, W: Sink>(
     write_cells(text, &field);
     write_cells(text, &function_cells(layout, rva));
     write_cells(text, &row_cells(row_at(layout, tables, rva)));
+    write_leaf_at(text, layout, leaves, rva);
     write_bytes(text, layout, rva);
 }
 
@@ -310,6 +314,7 @@ fn write_spot<A: Allocator + Copy, W: Sink>(
     file: ViewFile,
     layout: &Layout,
     tables: &Tables<A>,
+    leaves: &[Leaf],
     names: &SectionNames,
     spot: &Spot,
 )
@@ -317,7 +322,7 @@ fn write_spot<A: Allocator + Copy, W: Sink>(
     ensures { AddsSome W.taken W.failures text.old text.new }
 {
     match rva_at(layout, file.strings(layout.headers()), spot) {
-        Ok(rva) => write_at(text, layout, tables, names, rva),
+        Ok(rva) => write_at(text, layout, tables, leaves, names, rva),
         Err(words) => write_unlaid(text, file, layout.headers(), spot, words),
     }
 }
@@ -328,6 +333,7 @@ fn write_spots<A: Allocator + Copy, W: Sink>(
     file: ViewFile,
     layout: &Layout,
     tables: &Tables<A>,
+    leaves: &[Leaf],
     spots: &[Spot],
 )
     requires { IsReady W.failures text.old }
@@ -335,7 +341,7 @@ fn write_spots<A: Allocator + Copy, W: Sink>(
 {
     let names = SectionNames::new(file, layout.headers());
     for spot in spots {
-        write_spot(text, file, layout, tables, &names, spot);
+        write_spot(text, file, layout, tables, leaves, &names, spot);
     }
 }
 
@@ -355,13 +361,14 @@ fn write_laid_out<A: Allocator + Copy, W: Sink>(
     file: ViewFile,
     layout: &Layout,
     tables: &Tables<A>,
+    leaves: &[Leaf],
     spots: &[Spot],
 )
     requires { IsReady W.failures text.old }
     ensures { AddsSome W.taken W.failures text.old text.new }
 {
     write_fault(text, tables.fault);
-    write_spots(text, file, layout, tables, spots);
+    write_spots(text, file, layout, tables, leaves, spots);
 }
 
 /// Adds the line of one of faults 1 to 15, and what the headers say of some spots if they have no fault.
@@ -395,7 +402,8 @@ pub(crate) fn write_image_spots<A: Allocator + Copy, W: Sink>(
     match file.lay_out() {
         Ok(layout) => {
             let tables = read_whole_tables(alloc, &layout)?;
-            write_laid_out(text, file, &layout, &tables, spots);
+            let tree = leaves(alloc, &layout)?;
+            write_laid_out(text, file, &layout, &tables, &tree.leaves, spots);
             Ok(outcome_of(tables.fault))
         }
         Err(fault) => {

@@ -10,6 +10,7 @@ mod at_object;
 mod at_place;
 mod file_places;
 mod header_places;
+mod leaf_place;
 mod object_places;
 mod relocation_width;
 mod row_name;

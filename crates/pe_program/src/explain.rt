@@ -250,7 +250,7 @@ static EXPLAINED: [Explained; 69] = [
     (
         62,
         Some("It begins with MZ, with !<arch>, or with the first two fields of an import object."),
-        "a library: extract its objects first, for example with ar x; an image: use petool dump or petool show",
+        "a library: use petool archive; an image: use petool dump or petool show",
     ),
     (
         63,
@@ -320,7 +320,7 @@ static EXPLAINED: [Explained; 69] = [
 ];
 
 /// All findings, by number.
-static FINDINGS_EXPLAINED: [Explained; 46] = [
+static FINDINGS_EXPLAINED: [Explained; 57] = [
     (
         101,
         Some(
@@ -524,7 +524,7 @@ static FINDINGS_EXPLAINED: [Explained; 46] = [
     ),
     (
         211,
-        Some("Without that key nothing of it is read."),
+        Some("Without that key neither its fixed part nor its strings are read."),
         "a damaged resource, or data of another kind with the type of version information",
     ),
     (
@@ -592,6 +592,59 @@ static FINDINGS_EXPLAINED: [Explained; 46] = [
             "The directories are the metadata, the resources, the strong name signature, the code manager table, the vtable fixups, the export address table jumps and the managed native header.",
         ),
         "an image whose managed code was encrypted by a packer",
+    ),
+    (
+        300,
+        Some(
+            "A line feed follows. A thin archive has the names of its members' files, and not their bytes.",
+        ),
+        "an object or an image: use petool object or petool dump",
+    ),
+    (
+        301,
+        Some(
+            "Each member begins right after the one before it, or one byte later, at an even offset. Nothing after it is read.",
+        ),
+        "an archive that was cut off, or changed as a text",
+    ),
+    (302, Some("Nothing after it is read."), "a damaged archive"),
+    (
+        303,
+        Some("Nothing after it is read."),
+        "an archive that was cut off",
+    ),
+    (
+        304,
+        Some(
+            "Long names are in a member of their own, //, or in the first bytes of the member itself.",
+        ),
+        "an archive from which the member // was taken out",
+    ),
+    (
+        305,
+        Some("The symbols before the first one without a name are read."),
+        "a damaged archive",
+    ),
+    (
+        306,
+        Some(
+            "The first linker member has an offset for each symbol, the second an index into offsets for each.",
+        ),
+        "an archive that was changed without its index: use ranlib",
+    ),
+    (
+        307,
+        Some("petool archive prints that fault below the member, with its place in the object."),
+        "an archive of files of another kind, or with a damaged object",
+    ),
+    (331, None, "an import library that was cut off"),
+    (332, None, "a damaged import library"),
+    (
+        333,
+        Some(
+            "0 by ordinal, 1 the symbol, 2 without a mark before it, 3 also without what follows the first @, 4 a name of its own.",
+        ),
+        "a damaged import library, or one of a linker with further name types",
     ),
 ];
 

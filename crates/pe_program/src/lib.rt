@@ -23,6 +23,7 @@ mod output;
 mod place;
 mod program;
 mod rebase_job;
+mod resource_job;
 mod statuses;
 mod target;
 mod texts;

@@ -6,6 +6,7 @@ use crate::explain::run_explain;
 use crate::file_job::{run_file, run_files};
 use crate::map_job::{run_map, run_map_unbound};
 use crate::rebase_job::{NewFile, run_rebase};
+use crate::resource_job::run_resource;
 use crate::texts::Engine;
 use pe_tool::{Beyond, Colours, Job, JsonOptions, Page, ShowOptions, parse_words};
 use std::env::FillError;
@@ -114,6 +115,10 @@ pub fn run<R: Files + Input + Env + Print + Eprint + AllocGlobal>(rt: &R, is_ter
         ) => run_files(rt, json_engine(beyond), most, &files),
         Ok(Job::Sum { files }) => run_files(rt, Engine::Sum, None, &files),
         Ok(Job::At { file, places }) => run_at(rt, file.as_str(), &places),
+        Ok(Job::Resource { file, leaf, is_raw }) => match leaf {
+            Some(leaf) => run_resource(rt, file.as_str(), leaf.as_str(), is_raw),
+            None => run_file(rt, Engine::Resources, None, file.as_str()),
+        },
         Ok(Job::Explain { number }) => run_explain(rt, number),
         Ok(Job::Dump { file }) => run_file(rt, Engine::Dump, None, file.as_str()),
         Ok(Job::DumpMost { most, file }) => {
@@ -123,6 +128,7 @@ pub fn run<R: Files + Input + Env + Print + Eprint + AllocGlobal>(rt: &R, is_ter
         Ok(Job::ObjectMost { most, file }) => {
             run_file(rt, Engine::Object, Some(most), file.as_str())
         }
+        Ok(Job::Archive { most, file }) => run_file(rt, Engine::Archive, most, file.as_str()),
         Ok(
             Job::Map {
                 policy,

@@ -6,10 +6,11 @@ use crate::headed::{Headed, Heading};
 use crate::output::Output;
 use pe_tool::{
     Beyond, Counted, Detail, Outcome, Page, PartSource, Placed, Policy, SetEntry, ShowOptions,
-    Sink, Source, Spot, ToolError, at_each_sized, at_each_text, check_parts, check_sized,
-    check_text, dump_object_sized, dump_parts, dump_sized, dump_text, fault_detail, json,
-    json_parts, json_sized, map_report, map_report_unbound, object_text, read_whole, show_page,
-    show_page_sized, size_fault, sum_sized, sum_text, write_refusal,
+    Sink, Source, Spot, ToolError, archive_text, at_each_sized, at_each_text, check_parts,
+    check_sized, check_text, dump_object_sized, dump_parts, dump_sized, dump_text, fault_detail,
+    json, json_parts, json_sized, map_report, map_report_unbound, object_text, read_whole,
+    resource_list_sized, resource_list_text, show_page, show_page_sized, size_fault, sum_sized,
+    sum_text, write_refusal,
 };
 use pe_view::{Fault, View};
 use std::alloc::Allocator;
@@ -28,6 +29,8 @@ pub enum Engine<'e> {
     Dump,
     /// `pe_tool::dump_object`
     Object,
+    /// `pe_tool::dump_archive`
+    Archive,
     /// `pe_tool::show_page`
     Show {
         options: ShowOptions,
@@ -43,6 +46,8 @@ pub enum Engine<'e> {
     Sum,
     /// `pe_tool::at_each`
     At(&'e [Spot<'e>]),
+    /// `pe_tool::resource_list`
+    Resources,
 }
 
 /// What to print.
@@ -123,8 +128,10 @@ enum Lines<'e> {
     Check,
     Dump,
     Object,
+    Archive,
     Sum,
     At(&'e [Spot<'e>]),
+    Resources,
 }
 
 /// The result of an engine, and the numbers that the rule of the fault compares, if they are known.
@@ -143,8 +150,10 @@ fn lines_of<A: Allocator + Copy, W: Sink>(
         Lines::Check => check_text(alloc, file, writer),
         Lines::Dump => dump_text(alloc, file, writer),
         Lines::Object => object_text(alloc, file, writer),
+        Lines::Archive => archive_text(alloc, file, writer),
         Lines::Sum => sum_text(alloc, file, writer),
         Lines::At(spots) => at_each_text(alloc, spots, file, writer),
+        Lines::Resources => resource_list_text(alloc, file, writer),
     }
 }
 
@@ -190,6 +199,7 @@ fn write_whole<A: Allocator + Copy, R: Source, W: Sink>(
         Engine::Check => write_lines(alloc, Lines::Check, reader, writer),
         Engine::Dump => write_lines(alloc, Lines::Dump, reader, writer),
         Engine::Object => write_lines(alloc, Lines::Object, reader, writer),
+        Engine::Archive => write_lines(alloc, Lines::Archive, reader, writer),
         Engine::Show { options, width } => {
             let page = Page {
                 name,
@@ -201,6 +211,7 @@ fn write_whole<A: Allocator + Copy, R: Source, W: Sink>(
         Engine::Json { beyond } => (json(alloc, name, beyond, reader, writer), None),
         Engine::Sum => write_lines(alloc, Lines::Sum, reader, writer),
         Engine::At(spots) => write_lines(alloc, Lines::At(spots), reader, writer),
+        Engine::Resources => write_lines(alloc, Lines::Resources, reader, writer),
     }
 }
 
@@ -228,6 +239,10 @@ fn write_sized<A: Allocator + Copy, R: Source, W: Sink>(
             (dump_object_sized(alloc, reader, size, writer), None)
         }
         Engine::Object => write_lines(alloc, Lines::Object, reader, writer),
+        Engine::Archive => match size_fault(size) {
+            Some(fault) => (write_refusal(writer, fault), None),
+            None => write_lines(alloc, Lines::Archive, reader, writer),
+        },
         Engine::Show { options, width } => {
             let page = Page {
                 name,
@@ -240,6 +255,10 @@ fn write_sized<A: Allocator + Copy, R: Source, W: Sink>(
         Engine::Sum if is_too_large(size) => (sum_sized(alloc, reader, size, writer), None),
         Engine::Sum => write_lines(alloc, Lines::Sum, reader, writer),
         Engine::At(spots) => (at_each_sized(alloc, spots, reader, size, writer), None),
+        Engine::Resources if is_too_large(size) => {
+            (resource_list_sized(alloc, reader, size, writer), None)
+        }
+        Engine::Resources => write_lines(alloc, Lines::Resources, reader, writer),
     }
 }
 

@@ -7,7 +7,7 @@ use arrayvec::ArrayVec;
 use pe_page::Cell::{self, Plain};
 use pe_page::{write_cells, write_plain_heading};
 use pe_records::{CodeView, DebugEntry, Pdb20, Pdb70, code_view, debug_type};
-use pe_resource_pages::write_version_identity;
+use pe_resource_pages::{has_version_identity, write_version_identity};
 use pe_text::Part::{Decimal, Hex, Hex2, Text};
 use pe_text::{ShowOptions, Sink, TextWriter, write_parts};
 use pe_view::View;
@@ -215,7 +215,15 @@ fn write_version<W: Sink>(text: &mut TextWriter<W>, version: Option<&[u8]>)
     }
 }
 
-/// Adds the part of a page on what an image is: by its version information, and by its PDB file, if it has one of these.
+/// Whether version information tells what an image is.
+fn tells_identity(version: Option<&[u8]>) -> bool {
+    match version {
+        Some(version) => has_version_identity(version),
+        None => false,
+    }
+}
+
+/// Adds the part of a page on what an image is: by its version information, and by its PDB file, if one of these tells it.
 pub fn write_identity<W: Sink>(
     text: &mut TextWriter<W>,
     options: &ShowOptions,
@@ -225,7 +233,7 @@ pub fn write_identity<W: Sink>(
     requires { IsReady W.failures text.old }
     ensures { AddsSome W.taken W.failures text.old text.new }
 {
-    if version.is_none() && pdb.is_none() {
+    if pdb.is_none() && !tells_identity(version) {
         return;
     }
     write_plain_heading(text, options, b"Identity");

@@ -37,6 +37,13 @@ fn write_versions<W: Sink>(text: &mut TextWriter<W>, version: &[u8])
     text.text(b"\n");
 }
 
+/// Whether version information has one of the rows that it may tell of an image's identity.
+pub fn has_version_identity(version: &[u8]) -> bool {
+    fixed_info(version).is_some()
+        || version_text(version, &PRODUCT_NAME).is_some()
+        || version_text(version, &COMPANY_NAME).is_some()
+}
+
 /// Adds the rows of an image's identity that its version information tells: the product, the company, and the versions of the file
 /// and of the product.
 pub fn write_version_identity<W: Sink>(text: &mut TextWriter<W>, version: &[u8])

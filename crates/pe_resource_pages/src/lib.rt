@@ -24,7 +24,7 @@ mod version_rows;
 mod version_text;
 mod wide_text;
 
-pub use identity::write_version_identity;
+pub use identity::{has_version_identity, write_version_identity};
 pub use image_resources::{ImageResources, ShownResources};
 pub use leaf_path::write_leaf_path;
 pub use resource_rows::write_resources;

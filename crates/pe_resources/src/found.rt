@@ -1,6 +1,6 @@
 //! `Found`: what has been read of a tree, and what each step of the walk adds to it.
 
-ghost use Rattle.std.specs.Prelude.{◌≡◌, ◌+◌, ◌*◌, ◌<◌, ◌≤◌, ◌^◌, [], ◌∷◌, OnOk, IfOk, IfSome};
+ghost use Rattle.std.specs.Prelude.{◌≡◌, ◌+◌, ◌*◌, ◌<◌, ◌≤◌, ◌^◌, true, [], ◌∷◌, OnOk, IfOk, IfSome};
 ghost use Rattle.pe_layout.specs.Layout.{image_of};
 ghost use Rattle.pe_resources.specs.Found.{Shows, AreSome, Enters};
 ghost use Rattle.pe_resources.specs.Walk.{Walk, asked, nothing, finding, name_tests, read_leaf};
@@ -34,7 +34,24 @@ impl<A: Allocator + Copy> Found<A> {
         }
     }
 
+    /// Adds a finding at an offset of the section.
+    #[cold]
+    #[inline(never)]
+    fn tell(&mut self, section: Section, number: u16, offset: u32) -> Result<(), AllocError>
+        requires small { section.start + offset < 2 ^ 32 }
+        ensures shows { (w : Walk) → Shows self.old w → OnOk result (Shows self.new (asked (finding (image_of section.entry.layout.now) section.entry.start number offset true ∷ []) w)) }
+        ensures entered { self.new.entered ≡ self.old.entered }
+    {
+        self.findings.push(Fault {
+            number,
+            image: section.layout.image(),
+            place: Place::Rva(section.start + offset),
+        })?;
+        Ok(())
+    }
+
     /// Adds a finding at an offset of the section where it stands.
+    #[inline(always)]
     pub fn find(
         &mut self,
         section: Section,
@@ -47,16 +64,13 @@ impl<A: Allocator + Copy> Found<A> {
         ensures entered { self.new.entered ≡ self.old.entered }
     {
         if stands {
-            self.findings.push(Fault {
-                number,
-                image: section.layout.image(),
-                place: Place::Rva(section.start + offset),
-            })?;
+            self.tell(section, number, offset)?;
         }
         Ok(())
     }
 
     /// Asks finding 183 of an entry.
+    #[inline]
     pub fn check_name(&mut self, section: Section, entry: Entry) -> Result<(), AllocError>
         requires small { section.start ≤ 2 ^ 31 }
         ensures shows { (w : Walk) → Shows self.old w → OnOk result (Shows self.new (asked (name_tests (image_of section.entry.layout.now) section.entry.start entry) w)) }
@@ -68,6 +82,7 @@ impl<A: Allocator + Copy> Found<A> {
     }
 
     /// Reads the data entry at an offset, below which there are so many levels.
+    #[inline]
     pub fn read_leaf(
         &mut self,
         section: Section,
@@ -94,6 +109,7 @@ impl<A: Allocator + Copy> Found<A> {
     }
 
     /// Asks findings 182, 185 and 189 of the directory at an offset, and tells how many entries it has where it is entered.
+    #[inline]
     pub fn enter(&mut self, section: Section, offset: u32) -> Result<Option<u32>, AllocError>
         requires some { AreSome self.old }
         requires small { section.start ≤ 2 ^ 31 }

@@ -63,11 +63,15 @@ impl<'l, 'a> Section<'l, 'a> {
         requires { offset + 16 + 8 * count ≤ self.len }
         ensures { result ≡ is_ascending (image_of self.entry.layout.now) self.entry.start offset count }
     {
+        if count < 2 {
+            return true;
+        }
         let mut ascending = true;
-        for index in 0..count.saturating_sub(1) {
-            let before = self.entry(offset, index);
+        let mut before = self.entry(offset, 0);
+        for index in 0..count - 1 {
             let entry = self.entry(offset, index + 1);
             ascending &= self.is_after(before, entry);
+            before = entry;
         }
         ascending
     }

@@ -1,10 +1,20 @@
 -- The words of a number in the table of faults, row by row.
-use Rattle.std.proofs.Common.{◌≡◌, ◌∙◌, ℕ, zero, suc, ◌+◌, ◌<◌, ◌≤◌, List, [], ◌∷◌, map, drop, length, get_or, Some, None, refl, sym, ap, arith}
+use Rattle.std.proofs.Common.{◌≡◌, ◌∙◌, ℕ, zero, suc, ◌+◌, ◌<◌, ◌≤◌, Bool, true, false, cond, List, [], ◌∷◌, ◌++◌, map, drop, length, get_or, Some, None, refl, sym, ap, arith}
 use Rattle.std.proofs.lemmas.Bool.{eq-eqb, ne_eqb}
 use Rattle.std.proofs.lemmas.List.{at_drop_more, drop_all, length-map}
 use Rattle.std.specs.Prelude.{Option}
+use Rattle.std.specs.Option.{option_or}
 use denote.Bor.{Bor}
 use Rattle.pe_text.specs.FaultWords.{Words, rule_view, words_in}
+
+or_row : (b : Bool) (row : Words) (first second both : Option Words) → both ≡ option_or first second → cond b (Some row) both ≡ option_or (cond b (Some row) first) second
+or_row true row first second both e = refl
+or_row false row first second both e = e
+
+-- the words of a number in two tables
+pub words-append : (first second : List (ℕ × Words)) (number : ℕ) → words_in (first ++ second) number ≡ option_or (words_in first number) (words_in second number)
+words-append [] second number = refl
+words-append (row ∷ first) second number = or_row _ row.1 _ _ _ (words-append first second number)
 
 -- a row of a table as the code has it
 abbrev Row : Type 0

@@ -2,7 +2,7 @@
 use Rattle.std.specs.Prelude.{ℕ, false, ◌==◌, if◌then◌else◌, List, [], ◌∷◌, ◌++◌, codes, decimal, Option, None, Some, unwrap_or, map}
 use Rattle.std.specs.Fmt.{digits}
 use denote.Bor.{Bor}
-use Rattle.pe_text.specs.declared.fault_text.TheConstants.{RULES}
+use Rattle.pe_text.specs.declared.fault_text.TheConstants.{RULES, FINDING_RULES}
 use Rattle.pe_text.specs.declared.fault_text.FaultWords.{FaultWords}
 use Rattle.pe_text.specs.declared.fault_text.PlaceNumber.{PlaceNumber}
 use Rattle.pe_text.specs.declared.fault_text.PlaceNumber.TheVariants.{Hex, Decimal}
@@ -26,9 +26,9 @@ words_in (row ∷ rows) number = if number == row.0 then Some row.1 else words_i
 abbrev pub rule_view : ℕ × Bor (List ℕ) × Bor (List ℕ) → ℕ × Words
 rule_view row = (row.0, (row.1.now, row.2.now))
 
--- the words of each fault, by its number
+-- the words of each fault and each finding, by its number
 unfoldable pub rules : List (ℕ × Words)
-rules = map (λ row. (row.0, (row.1.now, row.2.now))) RULES
+rules = map (λ row. (row.0, (row.1.now, row.2.now))) RULES ++ map (λ row. (row.0, (row.1.now, row.2.now))) FINDING_RULES
 
 -- the words of a number, also of one that no fault has
 abbrev pub words_of : ℕ → Words

@@ -19,7 +19,7 @@ pub struct FaultWords {
 }
 
 /// The words of each fault: its number, what is at its place, and the rule that it breaks.
-static RULES: [(u16, &str, &str); 115] = [
+static RULES: [(u16, &str, &str); 69] = [
     (1, "byte", "the file is larger than 2^32 bytes"),
     (
         2,
@@ -301,6 +301,10 @@ static RULES: [(u16, &str, &str); 115] = [
     ),
     (84, "object", "its file would have more than 2^32 - 1 bytes"),
     (85, "object", "a part of it does not fit the format"),
+];
+
+/// The words of each finding, as [`RULES`] has those of faults.
+static FINDING_RULES: [(u16, &str, &str); 57] = [
     (
         101,
         "debug directory",
@@ -515,6 +519,33 @@ static RULES: [(u16, &str, &str); 115] = [
         "CLR header",
         "one of its directories extends past the end of the image",
     ),
+    (
+        300,
+        "archive",
+        "the file does not begin with !<arch> or !<thin>",
+    ),
+    (
+        301,
+        "member",
+        "it has no header, whose 60 bytes end with a backquote and a line feed",
+    ),
+    (302, "Size of a member", "it is no decimal number"),
+    (303, "member", "it extends past the end of the file"),
+    (304, "Name of a member", "it leads to no text"),
+    (305, "linker member", "it has fewer symbols than it counts"),
+    (306, "linker member", "a symbol leads to no member"),
+    (307, "member", "the object in it has a fault"),
+    (
+        331,
+        "SizeOfData",
+        "the import object extends past the end of its member",
+    ),
+    (
+        332,
+        "import object",
+        "its symbol, its DLL or the name that the DLL exports has no end",
+    ),
+    (333, "Type of an import object", "its name type is over 4"),
 ];
 
 /// The words of a number in this table.
@@ -529,11 +560,14 @@ fn words_among(rules: &[(u16, &'static str, &'static str)], number: u16) -> Opti
     None
 }
 
-/// The words of a fault by its number, and `None` for a number that belongs to no fault.
+/// The words of a fault or a finding by its number, and `None` for a number that belongs to none.
 pub fn fault_words(number: u16) -> Option<FaultWords>
     ensures { option_map words_view result ≡ words_in rules number }
 {
-    words_among(&RULES, number)
+    match words_among(&RULES, number) {
+        Some(words) => Some(words),
+        None => words_among(&FINDING_RULES, number),
+    }
 }
 
 /// The words of a number, also of one that no fault has.

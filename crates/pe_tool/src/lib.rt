@@ -22,7 +22,7 @@ mod unbound_imports;
 mod window;
 mod words;
 
-pub use coff_lines::{dump_object, object_text};
+pub use coff_lines::{archive_text, dump_archive, dump_object, object_text};
 pub use object_sized::dump_object_sized;
 pub use pe_at::{Spot, at, at_each, at_each_sized, at_each_text, at_sized};
 pub use pe_detail::{Detail, DetailText, fault_detail};
@@ -33,6 +33,10 @@ pub use pe_lines::{
 };
 pub use pe_page::{ShownName, is_safe_text};
 pub use pe_reach::{PartSource, Placed, needed, read_enough, read_view, size_fault};
+pub use pe_resource_files::{
+    Extracted, Form, Wanted, Wish, extract, resource_list, resource_list_sized, resource_list_text,
+};
+pub use pe_resource_pages::resource_type_number;
 pub use pe_show::{Page, ShowOptions, show, show_page, show_page_sized, show_sized};
 pub use pe_space::{Policy, SetEntry};
 pub use pe_text::{

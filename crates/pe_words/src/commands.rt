@@ -5,6 +5,7 @@ use crate::builders::{new_command, with_subcommand};
 use crate::file_words::{FILE_COMMANDS, FileCommand, file_command, show_command};
 use crate::map_words::map_command;
 use crate::rebase_words::rebase_command;
+use crate::resource_words::resource_command;
 use clap::Command;
 use std::alloc::{AllocError, Global};
 
@@ -27,7 +28,7 @@ Exit statuses:
   4  out of memory
   5  a text was cut, by --most
 
-check, dump, object, at, map and rebase print a fault as a line, and explain it on standard error;
+check, dump, object, archive, at, resource, map and rebase print a fault as a line, and explain it on standard error;
 show and json print it in words. petool explain N explains fault N.";
 
 /// The program with its help.
@@ -62,6 +63,7 @@ pub(crate) fn command_named<'a>(
         "map" => Some(map_command(alloc)),
         "rebase" => Some(rebase_command(alloc)),
         "explain" => Some(explain_command(alloc)),
+        "resource" => Some(resource_command(alloc)),
         _ => match file_row(name) {
             Some(row) => Some(file_command(alloc, row)),
             None => None,
@@ -76,6 +78,7 @@ fn whole_command<'a>(alloc: Global) -> Result<Command<'a>, AllocError> {
         command = with_subcommand(command, file_command(alloc, row));
     }
     let command = with_subcommand(command, at_command(alloc));
+    let command = with_subcommand(command, resource_command(alloc));
     let command = with_subcommand(command, map_command(alloc));
     let command = with_subcommand(command, rebase_command(alloc));
     with_subcommand(command, explain_command(alloc))

@@ -1,4 +1,4 @@
-//! The words of the commands that read files one at a time: `show`, `check`, `dump`, `object`, `json` and `sum`.
+//! The words of the commands that read files one at a time: `show`, `check`, `dump`, `object`, `archive`, `json` and `sum`.
 
 ghost use Rattle.std.specs.Prelude.{◌≡◌, Some, None, IfOk, IfErr, OnErr};
 ghost use Rattle.pe_words.specs.Colours.{colour_word, colours_named, IsShow};
@@ -37,7 +37,7 @@ pub(crate) const SHOW: FileCommand = FileCommand {
 };
 
 /// The file commands that have no options but `--most`, and those for what is beyond the profile.
-pub(crate) const FILE_COMMANDS: [FileCommand; 5] = [
+pub(crate) const FILE_COMMANDS: [FileCommand; 6] = [
     FileCommand {
         name: "check",
         about: "Prints one line for each image: accepted, with its format and number of sections, or its first fault",
@@ -63,6 +63,14 @@ pub(crate) const FILE_COMMANDS: [FileCommand; 5] = [
         has_most: true,
     },
     FileCommand {
+        name: "archive",
+        about: "Prints each member of an archive of COFF objects, with what petool object prints of it, or a line for an import object",
+        file: "An archive, or - for standard input",
+        takes_several: false,
+        has_beyond: false,
+        has_most: true,
+    },
+    FileCommand {
         name: "json",
         about: "Prints each image or object, and its first fault if it is refused, as one line of JSON",
         file: "Images or objects, or - for standard input",
@@ -82,7 +90,7 @@ pub(crate) const FILE_COMMANDS: [FileCommand; 5] = [
 
 /// The help on `--all` of `json`.
 const ALL: &str =
-    "Adds debug data, the PDB file, the number of functions, TLS, the load configuration, bound imports, the CLR header, CheckSum as it is to be, certificates, what comes after the image, the Rich header, and the findings in these";
+    "Adds debug data, the PDB file, the number of functions, TLS, the load configuration, bound imports, the CLR header, resources, version information, the manifest, CheckSum as it is to be, certificates, what comes after the image, the Rich header, and the findings in these";
 
 /// The help on `--functions` of `json`.
 const FUNCTIONS: &str = "Adds each function of the exception table too, to what --all adds";
@@ -185,6 +193,7 @@ pub(crate) fn usage_of(name: &str) -> &'static str {
         "show" => "petool show",
         "dump" => "petool dump",
         "object" => "petool object",
+        "archive" => "petool archive",
         _ => "petool json",
     }
 }
@@ -347,6 +356,10 @@ fn limited_job<'a, P>(
         },
         "dump" => dump_job(file_of(alloc, found, "FILE")?, most),
         "object" => object_job(file_of(alloc, found, "FILE")?, most),
+        "archive" => Job::Archive {
+            most,
+            file: file_of(alloc, found, "FILE")?,
+        },
         _ => return Ok(None),
     };
     Ok(Some(job))

@@ -79,6 +79,13 @@ pub enum Job<P> {
         file: String,
         places: Vec<AtPlace>,
     },
+    /// `resource FILE`: write a line for each resource of an image; `resource FILE LEAF`: write one as a file, or as it stands in the
+    /// image.
+    Resource {
+        file: String,
+        leaf: Option<String>,
+        is_raw: bool,
+    },
     /// `explain N`: write the meaning of a fault, or the list of all faults.
     Explain {
         number: Option<u16>,
@@ -99,6 +106,11 @@ pub enum Job<P> {
     /// `object --most BYTES FILE`: write at most this many bytes of it.
     ObjectMost {
         most: u64,
+        file: String,
+    },
+    /// `archive FILE`: write the members of an archive and what they hold, with at most this many bytes.
+    Archive {
+        most: Option<u64>,
         file: String,
     },
     /// `rebase HEX IN OUT`: write the file of an image for another base.

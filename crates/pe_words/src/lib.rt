@@ -20,6 +20,7 @@ mod file_words;
 mod job;
 mod map_words;
 mod rebase_words;
+mod resource_words;
 mod word_values;
 mod words;
 

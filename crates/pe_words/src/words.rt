@@ -8,6 +8,7 @@ use crate::file_words::{file_job, file_of, usage_of};
 use crate::job::{Job, WordsError};
 use crate::map_words::{MapWords, map_command, map_words};
 use crate::rebase_words::{base_of, rebase_command};
+use crate::resource_words::resource_job;
 use crate::word_values::{BadValue, NoJob, bad_value};
 use clap::error::ErrorKind;
 use clap::{ArgMatches, Command, Error};
@@ -153,6 +154,7 @@ fn job_of<P: Copy>(
         "rebase" => rebase_job(alloc, found),
         "at" => at_job(alloc, found),
         "explain" => explain_job(alloc, found),
+        "resource" => Ok(resource_job(alloc, found)?),
         _ => files_job(alloc, name, found),
     }
 }

@@ -129,11 +129,15 @@ fn print_job<R: Print>(rt: &R, job: &Job) -> Option<()> {
         } => print_json(rt, *beyond, *most, files),
         Job::Sum { files } => print_files(rt, "sum", files),
         Job::At { file, places } => print_at(rt, file, places),
+        Job::Resource { file, leaf, is_raw } => println!(rt;
+            "resource {file} {leaf:?} {is_raw}"
+        ).ok(),
         Job::Explain { number } => println!(rt; "explain {number:?}").ok(),
         Job::Dump { file } => println!(rt; "dump {file}").ok(),
         Job::DumpMost { most, file } => println!(rt; "dump {most} of {file}").ok(),
         Job::Object { file } => println!(rt; "object {file}").ok(),
         Job::ObjectMost { most, file } => println!(rt; "object {most} of {file}").ok(),
+        Job::Archive { most, file } => println!(rt; "archive {most:?} of {file}").ok(),
         Job::Map {
             policy,
             window,

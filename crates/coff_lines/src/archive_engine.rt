@@ -1,0 +1,114 @@
+//! `dump_archive`: the engine of `petool archive`, which writes an archive's dump.
+
+ghost use Rattle.std.specs.Prelude.{◌≡◌, ◌-◌, ◌^◌, ◌<◌, ◌↔◌, Some, length, IsErrOf};
+ghost use Rattle.pe_view.specs.Faults.{Answers};
+ghost use Rattle.coff_archive.specs.ArchiveFile.{file_of, is_thin};
+ghost use Rattle.coff_archive.specs.Members.{thinness};
+ghost use Rattle.pe_text.specs.Engine.{Puts, Ran};
+ghost use Rattle.coff_lines.specs.ArchiveLines.{IsArchiveText, file_tests, outcome_by};
+
+use crate::archive_lines::write_archive;
+use coff_archive::Archive;
+use pe_text::{
+    Outcome, Report, Sink, Source, TextWriter, ToolError, refuse, run_report, write_report,
+};
+use pe_view::{Fault, Place, View};
+use std::alloc::{AllocError, Allocator};
+
+/// How many bytes an archive may have.
+const MOST: u64 = 1 << 32;
+
+/// A fault of a file as a whole.
+fn file_fault(number: u16, offset: u64) -> Fault
+    ensures { result ≡ record { number = number; image = 0; place = Place.File offset } }
+{
+    Fault {
+        number,
+        image: 0,
+        place: Place::File(offset),
+    }
+}
+
+/// The archive that a file holds, or why it is refused as a whole: fault 1 or 300.
+fn open_archive(file: &[u8]) -> Result<Archive<'_>, Fault>
+    ensures { Answers (file_tests file.entry.now) (λ archive. (file_of archive ≡ file.entry.now) × (thinness file.entry.now ≡ Some (is_thin archive))) result }
+{
+    let view = View::new(file);
+    if view.len() > MOST {
+        return Err(file_fault(1, MOST));
+    }
+    match Archive::of(view) {
+        Some(archive) => Ok(archive),
+        None => Err(file_fault(300, 0)),
+    }
+}
+
+/// The outcome for the first fault, if there is one.
+fn outcome_by(fault: Option<Fault>) -> Outcome
+    ensures { result ≡ outcome_by fault }
+{
+    match fault {
+        Some(fault) => Outcome::Refused(fault),
+        None => Outcome::Done,
+    }
+}
+
+/// The report of [`dump_archive`]: the dump of an archive, or why the file is refused as a whole.
+struct DumpArchive;
+
+impl Report for DumpArchive {
+    ghost is_text = { IsArchiveText };
+
+    fn write<A: Allocator + Copy, W: Sink>(
+        &self,
+        _alloc: A,
+        text: &mut TextWriter<W>,
+        file: &[u8],
+    ) -> Result<Outcome, AllocError> {
+        match open_archive(file) {
+            Ok(archive) => Ok(outcome_by(write_archive(text, &archive))),
+            Err(fault) => Ok(refuse(text, fault)),
+        }
+    }
+}
+
+/// Writes a line for each member of an archive of COFF objects ("PE Format", Archive (Library) File Format), and after it what
+/// [`dump_object`](crate::dump_object) writes of the member, or the line of a short import object.
+///
+/// A file that is too large or begins with no archive's signature is refused by fault 1 or 300. Otherwise the outcome is the first of
+/// findings 301 to 304, 307 and 331 to 333 of all members; the dump goes on after it, but for 301 to 303, after which no member can be
+/// found. It takes the time of the objects, and of an object that is no import object one pass more over its tables for its faults.
+///
+/// The file is read to its end, or to 2^32 + 1 bytes. Memory is allocated only for the file's bytes. On the error `Write` the beginning
+/// of the text was written, on `Read` and `Memory` nothing; `Memory` never comes if the reader returned no byte. Condition: each device
+/// has counted fewer than 2^64 - 1 failures so far.
+pub fn dump_archive<A: Allocator + Copy, R: Source, W: Sink>(
+    alloc: A,
+    reader: &mut R,
+    writer: &mut W,
+) -> Result<Outcome, ToolError>
+    requires reads { R.failures reader.old < 2 ^ 64 - 1 }
+    requires writes { W.failures writer.old < 2 ^ 64 - 1 }
+    ensures ran { Ran IsArchiveText (R.given reader.old) (R.given reader.new)
+        (W.taken writer.old) (W.taken writer.new) (R.ended reader.new) result }
+    ensures read { IsErrOf result ToolError.Read ↔ (R.failures reader.old < R.failures reader.new) }
+    ensures write { IsErrOf result ToolError.Write ↔ (W.failures writer.old < W.failures writer.new) }
+{
+    run_report(&DumpArchive, alloc, reader, writer)
+}
+
+/// The output of [`dump_archive`] for a file that was read whole, and that its caller keeps. On the error `Write` the beginning of the
+/// output was written, on `Memory` nothing; `Read` never comes, and `Memory` not for an empty file. Condition: the writer has counted
+/// fewer than 2^64 - 1 failures so far.
+pub fn archive_text<A: Allocator + Copy, W: Sink>(
+    alloc: A,
+    file: &[u8],
+    writer: &mut W,
+) -> Result<Outcome, ToolError>
+    requires { W.failures writer.old < 2 ^ 64 - 1 }
+    ensures puts { Puts (IsArchiveText file.now) (W.taken writer.old) (W.taken writer.new)
+        (W.failures writer.old) (W.failures writer.new) result }
+    ensures memory { IsErrOf result ToolError.Memory → 0 < length file.now }
+{
+    write_report(&DumpArchive, alloc, writer, file)
+}

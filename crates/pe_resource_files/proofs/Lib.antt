@@ -1,0 +1,3 @@
+mod ById
+mod EntryByEntry
+mod Writing

@@ -1,0 +1,12 @@
+pub use Rattle.pe_text.specs.Engine
+pub use Rattle.pe_text.specs.TextWriter
+pub use Rattle.pe_page.specs.Page
+pub mod Bitmap
+pub mod ById
+pub mod Extract
+pub mod File
+pub mod Group
+pub mod Listed
+pub mod Pictures
+pub mod PicturesFile
+pub mod Wanted
