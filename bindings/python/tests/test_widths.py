@@ -126,11 +126,15 @@ class Widths(unittest.TestCase):
                 self.assertEqual(self.rows(TWELVE, "   1  import", columns=columns), dict(LISTS)["100"])
 
     def test_one_module_that_does_not_fit(self):
-        file = importing((b"N" * 90 + b".dll", [1, 2]))
-        found = [self.rows(file, "   1  import", columns=columns) for columns in ("158", "157", "102", "101")]
-        name = "N" * 90 + ".dll 2"
-        below = [f"{IMPORTS}2 imports:", f"      {name}"]
-        self.assertEqual(found, [[f"{IMPORTS}2 imports: {name}"], below, below, [f"{IMPORTS}2 imports from 1 module: --imports"]])
+        # a letter takes one column, whatever its bytes are
+        for letter in "N\u00e9\u20ac":
+            module = letter * (90 if letter < "\u2000" else 80) + ".dll"
+            file = importing((module.encode(), [1, 2]))
+            widths = [str(len(module) + count) for count in (64, 63, 8, 7)]
+            below = [f"{IMPORTS}2 imports:", f"      {module} 2"]
+            with self.subTest(letter):
+                found = [self.rows(file, "   1  import", columns=columns) for columns in widths]
+                self.assertEqual(found, [[f"{IMPORTS}2 imports: {module} 2"], below, below, [f"{IMPORTS}2 imports from 1 module: --imports"]])
 
     def test_flags_that_do_not_fit_are_on_further_rows(self):
         image = changed("v1.dll", (0x56, struct.pack("<H", IMAGE_FLAGS)), (0x15C, numbers(SECTION_FLAGS)), size=None)
