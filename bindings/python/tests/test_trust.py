@@ -136,6 +136,8 @@ FOUND = [
     (223, bytes(put(bytearray(image(entry(b""))), (0x94, numbers(END + 8)))), ENTRY),
     (224, image(entry(b""), at=END + 4), ENTRY),
     (241, rich(PAIRS, start=b"DanT")[0], 0x60),
+    # the words before 0x40 do not count: with this key the offset of the signature reads DanS
+    (241, bytes(put(bytearray(rich([])[0]), (0x40, bytes(0x40)), (0x60, b"Rich" + numbers(0x80 ^ 0x536E6144)))), 0x60),
 ]
 
 #: Files without a finding.
