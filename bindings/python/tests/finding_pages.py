@@ -1,4 +1,4 @@
-"""What tests of findings on pages share: the parts of a page, and a test for lists of files with and without a finding."""
+"""What tests of findings share: the program over a file, the parts of a page, and a test for lists of files with and without a finding."""
 
 import os
 import pathlib
@@ -17,12 +17,10 @@ def words_of():
     return {int(number): (subject, rule) for number, subject, rule in rows}
 
 
-class FindingPages:
-    """Tests of FOUND, which has a number, a file with this one finding, and its RVA for each number in one of the ranges NUMBERS, and of
-    SOUND, files without a finding."""
+class OverFiles:
+    """A test of what the program does with files, in a folder of its own."""
 
     maxDiff = None
-    NUMBERS = FOUND = SOUND = ()
 
     def setUp(self):
         folder = tempfile.TemporaryDirectory()
@@ -33,6 +31,13 @@ class FindingPages:
         """What the program does with these words in a folder in which `a` is the file."""
         (self.folder / "a").write_bytes(file)
         return run([PROGRAM, *words], cwd=self.folder)
+
+
+class FindingPages(OverFiles):
+    """Tests of FOUND, which has a number, a file with this one finding, and its RVA for each number in one of the ranges NUMBERS, and of
+    SOUND, files without a finding."""
+
+    NUMBERS = FOUND = SOUND = ()
 
     def parts(self, file, *options):
         """The parts of the page of a file, which is accepted, by their headings."""

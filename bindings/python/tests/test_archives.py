@@ -1,17 +1,13 @@
 """Archives as `petool archive` prints them: members in the forms of several tools, import objects, and each finding by a file."""
 
-import os
-import pathlib
 import shutil
 import struct
-import tempfile
 import unittest
 
 from . import data
 from .cases import run
-from .finding_pages import words_of
+from .finding_pages import PROGRAM, OverFiles, words_of
 
-PROGRAM = os.environ.get("PETOOL_PROGRAM")
 SIGNATURE, THIN = b"!<arch>\n", b"!<thin>\n"
 O1 = data("o1.obj")
 
@@ -66,19 +62,7 @@ FOUND = [
 
 
 @unittest.skipUnless(PROGRAM, "left out without program: PETOOL_PROGRAM names none")
-class Archives(unittest.TestCase):
-    maxDiff = None
-
-    def setUp(self):
-        folder = tempfile.TemporaryDirectory()
-        self.addCleanup(folder.cleanup)
-        self.folder = pathlib.Path(folder.name)
-
-    def petool(self, file, *words):
-        """What the program does with these words in a folder in which `a` is the file."""
-        (self.folder / "a").write_bytes(file)
-        return run([PROGRAM, *words], cwd=self.folder)
-
+class Archives(OverFiles, unittest.TestCase):
     def object_text(self, file):
         """What `petool object` prints of these bytes."""
         return self.petool(file, "object", "a").stdout
