@@ -88,6 +88,18 @@ class Pictures(unittest.TestCase):
         self.assertEqual(self.written(SHOWN, "a", "group_cursor"), CURSOR_FILE)
         self.assertEqual(self.written(SHOWN, "--raw", "a", "12"), OF_CURSORS)
 
+    def test_the_height_of_a_bitmap_comes_before_that_of_its_group(self):
+        for entry, header, height in [(64, 128, 64), (128, 128, 64), (64, 0x204, 2), (64, 0x1FF, 255)]:
+            picture = struct.pack("<HHIii", 5, 6, 40, 64, header) + b"more"
+            group_of = group(2, [struct.pack("<HHHHIH", 64, entry, 1, 1, 3, 9)])
+            file = image(tree([(1, [(9, [(0, (picture, 0))])]), (12, leaf(group_of))]))
+            with self.subTest(entry=entry, header=header):
+                self.assertEqual(self.written(file, "a", "12"), pictures(2, (bytes([64, height, 0, 0]) + picture[:4], picture[4:])))
+        for picture in (struct.pack("<HHIii", 5, 6, 40, 64, 32)[:15], struct.pack("<HHIii", 5, 6, 41, 64, 32), b"\5\0\6\0\x89PNG\r\n\x1a\n" + bytes(8)):
+            group_of = group(2, [struct.pack("<HHHHIH", 64, 128, 1, 1, 3, 9)])
+            file = image(tree([(1, [(9, [(0, (picture, 0))])]), (12, leaf(group_of))]))
+            self.assertEqual(self.written(file, "a", "12"), pictures(2, (bytes([64, 64, 0, 0]) + picture[:4], picture[4:])))
+
     def test_a_group_of_none(self):
         self.assertEqual(self.written(image(tree([(14, leaf(group(1, [])))])), "a", "14"), pictures(1))
         self.assertEqual(self.written(image(tree([(14, leaf(group(1, []) + b"more"))])), "a", "14"), pictures(1))

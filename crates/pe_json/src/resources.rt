@@ -34,6 +34,7 @@ pub(crate) enum Level {
 }
 
 /// The key of what names a level, after a comma, and its colon.
+#[inline]
 fn level_key(level: Level) -> &'static [u8]
     ensures { result.now ≡ codes "," ++ (quoted (level_key level) ++ codes ":") }
 {
@@ -57,7 +58,8 @@ fn told_text<'a>(layout: &Layout<'a>, name: u32) -> Option<&'a [u8]>
     }
 }
 
-/// Adds what names a level, if the tree has it there.
+/// Adds what names a level, if the tree has it there. It is in line, so that the length of the key is known.
+#[inline(always)]
 fn write_level<W: Sink>(text: &mut TextWriter<W>, level: Level, layout: &Layout, name: Option<u32>)
     requires { IsReady W.failures text.old }
     ensures { Adds W.taken W.failures text.old text.new (more (level_name (image_of layout.now) (level_key level) name)) }

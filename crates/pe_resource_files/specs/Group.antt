@@ -1,6 +1,6 @@
 -- Groups of icons and of cursors, and what the files of their pictures have of them (winuser.h: a group has a header of 6 bytes and
 -- entries of 14; a file has a header of 6 bytes and entries of 16, before the pictures).
-use Rattle.std.specs.Prelude.{ℕ, ◌+◌, ◌*◌, ◌^◌, ◌%◌, ◌/◌, ◌&&◌, nat_le, List, length, drop, Option, Some, None, if◌then◌else◌}
+use Rattle.std.specs.Prelude.{ℕ, ◌+◌, ◌*◌, ◌^◌, ◌%◌, ◌/◌, ◌==◌, ◌&&◌, Bool, nat_le, List, length, drop, Option, Some, None, if◌then◌else◌}
 use Rattle.pe_view.specs.Number.{num, byte_of}
 use Rattle.pe_resource_files.specs.declared.group.GroupKind.{GroupKind}
 use Rattle.pe_resource_files.specs.declared.group.GroupKind.TheVariants.{Icons, Cursors}
@@ -19,10 +19,18 @@ entry_number width group k offset = num (byte_of group) (6 + 14 * k + offset) wi
 abbrev pub icon_front : List ℕ → ℕ → ℕ
 icon_front group k = entry_number 8 group k 0
 
--- those of a cursor are its width and its height, which is half of what the group says, and the hot spot that its data begin with
+-- behind the hot spot a bitmap begins, whose header has 40 bytes (wingdi.h, BITMAPINFOHEADER)
+abbrev pub is_bitmap : List ℕ → Bool
+is_bitmap bytes = nat_le 16 (length bytes) && num (byte_of bytes) 4 4 == 40
+
+-- the height of a cursor, twice: a bitmap says that of its picture and its mask together, and most groups say it so
+abbrev pub double_height : List ℕ → ℕ → List ℕ → ℕ
+double_height group k bytes = if is_bitmap bytes then num (byte_of bytes) 12 4 else entry_number 2 group k 2
+
+-- those of a cursor are its width, its height, and the hot spot that its data begin with
 abbrev pub cursor_front : List ℕ → ℕ → List ℕ → ℕ
 cursor_front group k bytes =
-    entry_number 2 group k 0 % 2 ^ 8 + 2 ^ 8 * (entry_number 2 group k 2 / 2 % 2 ^ 8) + 2 ^ 32 * num (byte_of bytes) 0 4
+    entry_number 2 group k 0 % 2 ^ 8 + 2 ^ 8 * (double_height group k bytes / 2 % 2 ^ 8) + 2 ^ 32 * num (byte_of bytes) 0 4
 
 -- the front of entry `k`'s picture, and its bytes, from the data of its resource
 abbrev pub picture_of : GroupKind → List ℕ → ℕ → List ℕ → Option (ℕ × List ℕ)

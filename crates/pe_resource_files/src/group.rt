@@ -1,8 +1,9 @@
 //! `Picture`: a picture of a group of icons or cursors, as the group's file has it.
 
-ghost use Rattle.std.specs.Prelude.{◌≡◌, ◌+◌, ◌*◌, ◌^◌, ◌≤◌, ◌<◌, IfSome, option_map};
+ghost use Rattle.std.specs.Prelude.{◌≡◌, ◌+◌, ◌*◌, ◌^◌, ◌≤◌, ◌<◌, true, IfSome, SomeIff, option_map};
+ghost use Rattle.pe_view.specs.Number.{num, byte_of};
 ghost use Rattle.pe_view.specs.View.{bytes_of, size_of};
-ghost use Rattle.pe_resource_files.specs.Group.{group_count, entry_number, cursor_front, picture_of, pair_of};
+ghost use Rattle.pe_resource_files.specs.Group.{group_count, entry_number, is_bitmap, double_height, cursor_front, picture_of, pair_of};
 ghost use Rattle.pe_resource_files.specs.Pictures.{picture_type};
 ghost use Rattle.pe_resource_files.specs.PicturesFile.{file_type};
 
@@ -13,6 +14,9 @@ const HEADER_LEN: u32 = 6;
 
 /// How many bytes each entry of a group has.
 const ENTRY_LEN: u32 = 14;
+
+/// How many bytes the header of a bitmap says that it has.
+const BITMAP_HEADER_LEN: u32 = 40;
 
 /// What a group holds.
 #[derive(Clone, Copy, Debug, PartialEq, Eq)]
@@ -77,6 +81,30 @@ pub(crate) fn entry_word(group: View, index: u32, offset: u32) -> u16
     group.u16_at(u64::from(at)).unwrap()
 }
 
+/// The height that the bitmap behind the hot spot says, which is that of its picture and of its mask together, if a bitmap is there.
+fn bitmap_height(bytes: View) -> Option<u32>
+    ensures { SomeIff result (is_bitmap (bytes_of bytes.entry) ≡ true) (num (byte_of (bytes_of bytes.entry)) 12 4) }
+{
+    let height = bytes.u32_at(12)?;
+    if bytes.u32_at(4)? == BITMAP_HEADER_LEN {
+        Some(height)
+    } else {
+        None
+    }
+}
+
+/// The height of a cursor, twice. Its group may say it once, so that of a bitmap comes first.
+fn double_height(group: View, index: u32, bytes: View) -> u32
+    requires index { index < 2 ^ 16 }
+    requires held { 6 + 14 * (index + 1) ≤ size_of group }
+    ensures { result ≡ double_height (bytes_of group.entry) index (bytes_of bytes.entry) }
+{
+    match bitmap_height(bytes) {
+        Some(height) => height,
+        None => u32::from(entry_word(group, index, 2)),
+    }
+}
+
 /// The first 8 bytes of the entry of a cursor's file: its width, its height, and the hot spot that its data begin with.
 fn cursor_front(group: View, index: u32, bytes: View) -> u64
     requires index { index < 2 ^ 16 }
@@ -85,7 +113,7 @@ fn cursor_front(group: View, index: u32, bytes: View) -> u64
     ensures { result ≡ cursor_front (bytes_of group.entry) index (bytes_of bytes.entry) }
 {
     let width = entry_word(group, index, 0) % 0x100;
-    let height = entry_word(group, index, 2) / 2 % 0x100;
+    let height = double_height(group, index, bytes) / 2 % 0x100;
     let hot_spot = bytes.u32_at(0).unwrap();
     u64::from(width) + 0x100 * u64::from(height) + 0x1_0000_0000 * u64::from(hot_spot)
 }

@@ -52,6 +52,15 @@ fn write_text<W: Sink>(text: &mut TextWriter<W>, name: &[u8])
     text.text(if shown.len() < name.len() { b".." } else { b"" });
 }
 
+/// Adds a text, given as its UTF-16 units, as a part of a path. It stands apart, so that a number takes no room for a text.
+#[inline(never)]
+fn write_units<W: Sink>(text: &mut TextWriter<W>, units: &[u8])
+    requires { IsReady W.failures text.old }
+    ensures { AddsSome W.taken W.failures text.old text.new }
+{
+    write_text(text, text_beginning(units).as_slice());
+}
+
 /// Adds the name of an entry: its id, or its text; `?` for a text that the file does not hold.
 fn write_name<W: Sink>(text: &mut TextWriter<W>, layout: &Layout, name: u32)
     requires { IsReady W.failures text.old }
@@ -62,7 +71,7 @@ fn write_name<W: Sink>(text: &mut TextWriter<W>, layout: &Layout, name: u32)
         return;
     }
     match name_text(layout, name) {
-        Some(units) => write_text(text, text_beginning(units).as_slice()),
+        Some(units) => write_units(text, units),
         None => text.text(b"?"),
     }
 }

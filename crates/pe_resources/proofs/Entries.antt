@@ -1,6 +1,7 @@
 -- One entry of a directory after the other.
-use Rattle.std.proofs.Common.{◌≡◌, ◌∙◌, ℕ, suc, ◌+◌, Bool, true, false, [], ◌∷◌, Option, Some, sym, subst, arith}
-use Rattle.std.specs.Prelude.{if◌then◌else◌}
+use Rattle.std.proofs.Common.{◌≡◌, ◌∙◌, refl, ℕ, suc, ◌+◌, Bool, true, false, [], ◌∷◌, Option, Some, inl, inr, sym, subst, arith}
+use Rattle.std.specs.Prelude.{if◌then◌else◌, ◌==◌}
+use Rattle.std.proofs.lemmas.Bool.{cases_Bool}
 use Rattle.pe_layout.specs.Image.{LaidOut}
 use Rattle.pe_resources.specs.declared.entry.Entry.{Entry}
 use Rattle.pe_resources.specs.declared.found.Found.{Found}
@@ -10,6 +11,16 @@ use Rattle.pe_resources.specs.Found.{Shows}
 use Rattle.pe_resources.specs.Path.{named, no_path}
 use Rattle.pe_resources.specs.Section.{entry_at, whole_count, is_held, start_of}
 use Rattle.pe_resources.specs.Walk.{Walk, asked, name_tests, read_leaf, read_entry, read_entries, read_directory, is_entered, entered, nothing, finding, walk_from, walk_at, walk_of}
+
+-- the name of one level takes the place of another
+pub named_again : (below n m : ℕ) (path : Path) → named below n (named below m path) ≡ named below n path
+named_again below n m path = elim (cases_Bool (below == 2)) [
+  | inl two ↦ rw two refl
+  | inr other ↦ (elim (cases_Bool (below == 1)) [
+    | inl one ↦ rw (other, one) refl
+    | inr last ↦ rw (other, last) refl
+  ])
+]
 
 -- an entry that leads to a directory
 pub directory_read : {A : Type 0} (found : Found A) (i : LaidOut) (start below offset n : ℕ) (directory : Path → ℕ → Walk → Walk) (path onward : Path) (e : Entry) (target : ℕ) (w : Walk)

@@ -1,8 +1,9 @@
 -- One step of the walk after the other.
-use Rattle.std.proofs.Common.{◌≡◌, ◌∙◌, refl, ℕ, ◌+◌, ◌*◌, ◌<◌, ◌≤◌, ◌⊎◌, inl, inr, Bool, true, false, not, ◌||◌, List, [], ◌∷◌, ◌++◌, length, get_or, sym, ap, append-nil, arith}
-use Rattle.std.specs.Prelude.{All, ◌==◌}
+use Rattle.std.proofs.Common.{◌≡◌, ◌∙◌, refl, ℕ, ◌+◌, ◌*◌, ◌<◌, ◌≤◌, ◌⊎◌, inl, inr, Bool, true, false, not, ◌||◌, List, [], ◌∷◌, ◌++◌, length, get_or, sym, ap, append-nil, arith, ◌-◌, ◌/◌}
+use Rattle.std.specs.Prelude.{All, ◌==◌, min}
+use Rattle.std.proofs.Math.Nat.{min-le_right, min-eq_left}
 use Rattle.std.specs.List.{list_any}
-use Rattle.std.proofs.lemmas.Bool.{ltb-false, lt-ltb, cases_Bool, cases_lt}
+use Rattle.std.proofs.lemmas.Bool.{eq-eqb, ne_eqb, leb-true, le-leb, lt-leb, ltb-false, lt-ltb, cases_Bool, cases_lt}
 use Rattle.std.proofs.lemmas.List.Folds.{list_any_at}
 use Rattle.pe_layout.specs.Image.{LaidOut, is_inside}
 use Rattle.pe_ranges.specs.Ranges.{meets, meets_any, FitsBeside, SameRanges, Gains}
@@ -80,6 +81,22 @@ all_beside start len ranges apart long some = λ k d lt.
 pub shared_is : (i : LaidOut) (start offset : ℕ) (ranges before : List (ℕ × ℕ)) (count : ℕ) (shared : Bool) → shared ≡ meets_any offset (16 + 8 * count) ranges → count ≡ whole_count i start offset → SameRanges ranges before → shared ≡ is_shared i start before offset
 shared_is i start offset ranges before count shared met whole same =
     met ∙ ap (λ (n : ℕ). meets_any offset (16 + 8 * n) ranges) whole ∙ same (λ range. meets offset (whole_len i start offset) range.0 range.1)
+
+-- a directory is held whole where all entries are held that it says to have
+pub whole_is : (i : LaidOut) (start offset count said : ℕ) → is_held i start offset 16 ≡ true → count ≡ whole_count i start offset → said ≡ entry_count i start offset → (count == said) ≡ is_held i start offset (16 + 8 * said)
+whole_is i start offset count said there whole counted =
+    let run : ℕ = i.raw_left start in
+    let room : ℕ = (run - offset - 16) / 8 in
+    let begins : offset + 16 ≤ run = leb-true _ _ there in
+    let least : count ≡ min said room = whole ∙ ap (λ (n : ℕ). min n room) (sym counted) in
+    elim (cases_lt room said) [
+      | inl few ↦
+          let other : count ≡ said → ⊥ = (λ same. let le = min-le_right said room in omega (arith, le, few, least, same)) in
+          ne_eqb count said other ∙ sym (lt-leb (offset + (16 + 8 * said)) run (omega (arith, begins, few)))
+      | inr enough ↦
+          let same : count ≡ said = least ∙ min-eq_left enough in
+          eq-eqb count said same ∙ sym (le-leb (offset + (16 + 8 * said)) run (omega (arith, begins, enough)))
+    ]
 
 -- a directory whose first bytes are held is asked for two findings
 pub directory_asked : {A : Type 0} (found : Found A) (i : LaidOut) (start offset : ℕ) (w : Walk) (held whole shared : Bool) (count : ℕ)

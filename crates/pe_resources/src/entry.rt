@@ -1,7 +1,9 @@
 //! `Entry`: an entry of a directory of the resource tree.
 
-ghost use Rattle.std.specs.Prelude.{◌≡◌, ◌<◌, ◌^◌};
-ghost use Rattle.pe_resources.specs.Entry.{is_text, is_directory, offset_of};
+ghost use Rattle.std.specs.Prelude.{◌≡◌, ◌<◌, ◌^◌, length};
+ghost use Rattle.pe_resources.specs.Entry.{entry_in, is_text, is_directory, offset_of};
+
+use pe_view::View;
 
 /// An entry of a directory of the resource tree ("PE Format", Resource Directory Entries).
 #[derive(Clone, Copy, Debug, PartialEq, Eq)]
@@ -13,6 +15,19 @@ pub struct Entry {
 }
 
 impl Entry {
+    /// The entry that 8 bytes are.
+    #[inline]
+    pub(crate) fn of(bytes: &[u8]) -> Entry
+        requires { length bytes.now ≡ 8 }
+        ensures { result ≡ entry_in bytes.now }
+    {
+        let row = View::new(bytes);
+        Entry {
+            name: row.u32_at(0).unwrap(),
+            target: row.u32_at(4).unwrap(),
+        }
+    }
+
     /// Whether a text names it.
     pub fn is_text(self) -> bool
         ensures { result ≡ is_text self }

@@ -122,8 +122,8 @@ impl<A: Allocator + Copy> Found<A> {
             self.find(section, 182, offset, true)?;
             return Ok(None);
         }
-        let is_whole = section.holds(offset, 16 + 8 * section.entry_count(offset));
         let count = section.whole_count(offset);
+        let is_whole = count == section.entry_count(offset);
         let len = 16 + 8 * count;
         let is_shared = self.entered.meets(offset, len);
         self.find(section, 182, offset, !is_whole)?;

@@ -66,10 +66,11 @@ impl<'l, 'a> Section<'l, 'a> {
         if count < 2 {
             return true;
         }
+        let rows = self.rows(offset, count);
         let mut ascending = true;
-        let mut before = self.entry(offset, 0);
+        let mut before = Entry::of(&rows[0]);
         for index in 0..count - 1 {
-            let entry = self.entry(offset, index + 1);
+            let entry = Entry::of(&rows[index as usize + 1]);
             ascending &= self.is_after(before, entry);
             before = entry;
         }

@@ -1,9 +1,10 @@
 //! `Section`: the bytes of an image from its resource directory on.
 
-ghost use Rattle.std.specs.Prelude.{◌≡◌, ◌+◌, ◌*◌, ◌<◌, ◌≤◌, ◌^◌, ◌&&◌, not, option_map, IfSome};
+ghost use Rattle.std.specs.Prelude.{◌≡◌, ◌+◌, ◌*◌, ◌<◌, ◌≤◌, ◌^◌, ◌&&◌, ℕ, List, length, not, option_map, slice_index_or, IfSome};
 ghost use Rattle.pe_view.specs.View.{bytes_of, size_of};
 ghost use Rattle.pe_layout.specs.Layout.{image_of};
 ghost use Rattle.pe_layout.specs.Image.{number_at, bytes_at};
+ghost use Rattle.pe_resources.specs.Entry.{entry_in};
 ghost use Rattle.pe_resources.specs.Section.{is_held, entry_count, whole_count, entry_at, has_name, start_of};
 ghost use Rattle.pe_resources.specs.Texts.{text_at, is_named};
 ghost use Rattle.pe_resources.specs.Leaves.{leaf_at};
@@ -66,12 +67,13 @@ impl<'l, 'a> Section<'l, 'a> {
         self.view.u16_at(offset as u64).unwrap()
     }
 
-    /// The number in the 4 bytes at an offset.
-    pub fn u32_at(self, offset: u32) -> u32
-        requires { offset + 4 ≤ self.len }
-        ensures { result ≡ number_at 4 (image_of self.entry.layout.now) (self.entry.start + offset) }
+    /// The `len` bytes at an offset, read where they are held.
+    #[inline]
+    pub fn bytes(self, offset: u32, len: u32) -> &'a [u8]
+        requires { offset + len ≤ self.len }
+        ensures { result.now ≡ bytes_at (image_of self.entry.layout.now) (self.entry.start + offset) len }
     {
-        self.view.u32_at(offset as u64).unwrap()
+        self.view.slice(offset as u64, len as u64).unwrap()
     }
 
     /// How many entries the directory at an offset says to have.
@@ -80,7 +82,8 @@ impl<'l, 'a> Section<'l, 'a> {
         ensures value { result ≡ entry_count (image_of self.entry.layout.now) self.entry.start offset }
         ensures small { result < 2 ^ 17 }
     {
-        u32::from(self.u16_at(offset + 12)) + u32::from(self.u16_at(offset + 14))
+        let counts = View::new(self.bytes(offset + 12, 4));
+        u32::from(counts.u16_at(0).unwrap()) + u32::from(counts.u16_at(2).unwrap())
     }
 
     /// How many of them the section has whole.
@@ -98,11 +101,18 @@ impl<'l, 'a> Section<'l, 'a> {
         requires { offset + 16 + 8 * index + 8 ≤ self.len }
         ensures { result ≡ entry_at (image_of self.entry.layout.now) self.entry.start offset index }
     {
-        let at = offset + 16 + 8 * index;
-        Entry {
-            name: self.u32_at(at),
-            target: self.u32_at(at + 4),
-        }
+        Entry::of(self.bytes(offset + 16 + 8 * index, 8))
+    }
+
+    /// The first `count` entries of the directory at an offset, each by its bytes.
+    #[inline]
+    pub fn rows(self, offset: u32, count: u32) -> &'a [[u8; 8]]
+        requires { offset + 16 + 8 * count ≤ self.len }
+        ensures len { length result.now ≡ count }
+        ensures rows { (k : ℕ) (d : List ℕ) → k < count → entry_in (slice_index_or result.now k d) ≡ entry_at (image_of self.entry.layout.now) self.entry.start offset k }
+    {
+        let (rows, _) = self.bytes(offset + 16, 8 * count).as_chunks::<8>();
+        rows
     }
 
     /// Whether the section has the whole text at an offset: two bytes of its length, and as many UTF-16 units.
@@ -122,8 +132,8 @@ impl<'l, 'a> Section<'l, 'a> {
         if !self.has_text(offset) {
             return None;
         }
-        let len = 2 * u64::from(self.u16_at(offset));
-        Some(self.view.slice(offset as u64 + 2, len).unwrap())
+        let len = 2 * u32::from(self.u16_at(offset));
+        Some(self.bytes(offset + 2, len))
     }
 
     /// Whether an entry is named by a text of these units.
@@ -144,11 +154,12 @@ impl<'l, 'a> Section<'l, 'a> {
         requires { offset + 16 ≤ self.len }
         ensures { result ≡ leaf_at (image_of self.entry.layout.now) self.entry.start path offset }
     {
+        let entry = View::new(self.bytes(offset, 16));
         Leaf {
             path,
-            rva: self.u32_at(offset),
-            size: self.u32_at(offset + 4),
-            code_page: self.u32_at(offset + 8),
+            rva: entry.u32_at(0).unwrap(),
+            size: entry.u32_at(4).unwrap(),
+            code_page: entry.u32_at(8).unwrap(),
         }
     }
 }

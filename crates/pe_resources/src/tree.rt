@@ -5,6 +5,7 @@ ghost use Rattle.pe_layout.specs.Layout.{image_of};
 ghost use Rattle.pe_resources.specs.Found.{Shows, AreSome};
 ghost use Rattle.pe_resources.specs.Walk.{Walk, read_directory};
 
+use crate::entry::Entry;
 use crate::found::Found;
 use crate::leaf::Path;
 use crate::section::Section;
@@ -31,9 +32,11 @@ pub(crate) fn read_directory<A: Allocator + Copy>(
     let Some(count) = found.enter(section, offset)? else {
         return Ok(());
     };
+    let rows = section.rows(offset, count);
+    let mut path = path;
     for index in 0..count {
-        let entry = section.entry(offset, index);
-        let path = path.named(below, entry.name);
+        let entry = Entry::of(&rows[index as usize]);
+        path = path.named(below, entry.name);
         found.check_name(section, entry)?;
         if entry.is_directory() {
             read_directory(found, section, below, path, entry.offset())?;
