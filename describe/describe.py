@@ -38,7 +38,7 @@ SHOWN = "bindings/rust/petool/src/lib.rs"
 PACKAGE = "bindings/python/petool"
 SHOWN_IN_PYTHON = f"{PACKAGE}/__init__.py"
 #: The modules of the package that have values, or classes with the fields of records.
-MODULES = ("_fault", "_image", "_library", "_object", "_resource", "_space", "_tables", "_trust")
+MODULES = ("_archive", "_fault", "_image", "_library", "_object", "_resource", "_space", "_tables", "_trust")
 MAN = "man/petool.h.3"
 JSON = "docs/JSON.md"
 FAULTS_PAGE = "docs/FAULTS.md"
@@ -236,8 +236,8 @@ def comparisons(description, faults):
     yield missing_sources(faults)
     yield rattle_sources.prototype_faults(description, HEADER, read(HEADER))
     yield rattle_sources.status_faults(description, MAN, read(MAN))
-    yield rattle_sources.value_faults(description, sources("pe_records_c", "pe_tables_c", "pe_trust_c", "pe_resources_c", "coff_read"))
-    yield rattle_sources.record_faults(description, sources("pe_records_c", "pe_tables_c", "pe_trust_c", "pe_resources_c", "pe_handle", "pe_opened"))
+    yield rattle_sources.value_faults(description, sources("pe_records_c", "pe_tables_c", "pe_trust_c", "pe_resources_c", "coff_archive_c", "coff_read"))
+    yield rattle_sources.record_faults(description, sources("pe_records_c", "pe_tables_c", "pe_trust_c", "pe_resources_c", "coff_archive_c", "pe_handle", "pe_opened"))
     yield rattle_sources.call_faults(description, sources("petool_c"))
     yield rattle_sources.key_faults(description, sources("pe_json"))
     yield rattle_sources.definition_faults(description, HEAD, read(HEAD))

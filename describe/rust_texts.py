@@ -142,13 +142,22 @@ def _filled(description: Description) -> List[str]:
     return sorted(filled | parts)
 
 
+def _has_none(description: Description, record: Record) -> bool:
+    """Whether it has a constant that is written: it has texts or no default, or is a part, without a pointer, of a record with
+    texts."""
+    with_text = [it for it in description.records.values() if description.has_text(it)]
+    is_part = any(it.type == record.name for other in with_text for it in other.fields)
+    is_plain = all(it.type != "bytes" for it in record.fields)
+    return is_part and is_plain or description.has_text(record) or _has_long_array(record)
+
+
 def records(description: Description) -> List[str]:
-    """All records, and the constants of those with texts, or without a default, that a call fills."""
+    """All records, and the constants of those that a call fills."""
     filled = _filled(description)
     lines: List[str] = []
     for record in description.records.values():
         lines += ([""] if lines else []) + _struct(description, record)
-        if record.name in filled and (description.has_text(record) or _has_long_array(record)):
+        if record.name in filled and _has_none(description, record):
             lines += _none(description, record)
     return lines
 

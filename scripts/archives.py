@@ -5,7 +5,9 @@ archives.py PETOOL PATH...
 PETOOL is the program. A PATH is an archive, or a folder, of which all files are used that begin like one. What petool prints, and
 its status, are compared with a dump that is made here by the rules of docs/FORMAT.md only. The names of the members are compared with
 those of `ar t` and `llvm-ar t`, and the import objects with those of `llvm-readobj`, for each of these that is there; an archive that
-one of them does not list is left out of its count. Differences are printed one by one; the last line has the counts.
+one of them does not list is left out of its count. Of each archive the first member, the last and the one between them are written
+with `--extract`, and compared with the archive's bytes and with `ar p`. Differences are printed one by one; the last line has the
+counts.
 """
 
 import os
@@ -99,8 +101,8 @@ def fault_line(finding, at):
 
 
 def expected(file):
-    """What petool prints for a file, and its status; the names of the members that are not the archive's own, and how many import
-    objects it has."""
+    """What petool prints for a file, and its status; the members that are not the archive's own, each by its name and what it holds, and
+    how many import objects it has."""
     thin = SIGNATURES.get(file[:8])
     if thin is None:
         return fault_line(300, 0), 1, [], 0
@@ -119,7 +121,7 @@ def expected(file):
             lines.append(fault_line(304, at))
             status = 1
         if not is_special(field):
-            listed.append(name)
+            listed.append((name, content))
         if not is_special(field) and not thin:
             if len(content) >= 20 and content[:6] == b"\0\0\xff\xff\0\0":
                 line = import_line(content)
@@ -158,6 +160,23 @@ def imports_by(program, path):
     return None if text is None else text.count(b"Format: COFF-import-file")
 
 
+def different(petool, path, thin, members):
+    """Some members that petool does not write as they stand in an archive, or that `ar` writes otherwise; and how many were tried."""
+    wrong, tried = [], 0
+    for at in sorted({0, len(members) // 2, len(members) - 1} if members else ()):
+        name, content = members[at]
+        count = sum(it == name for it, _ in members[:at + 1])
+        if not name or name.startswith(b"-"):
+            continue
+        tried += 1
+        answer = output(petool, "archive", "--extract", name, "--index", str(count), path)
+        if answer != (None if thin else content):
+            wrong.append(name)
+        if shutil.which("ar") and not thin and output("ar", "pN", str(count), path, name) not in (None, content):
+            wrong.append(name)
+    return wrong, tried
+
+
 def archives(paths):
     """The files at these paths that begin like archives."""
     for path in paths:
@@ -171,13 +190,14 @@ def archives(paths):
 
 def main():
     petool, *paths = sys.argv[1:]
-    counts = dict.fromkeys(("archives", "members", "imports", "different"), 0)
+    counts = dict.fromkeys(("archives", "members", "imports", "extracted", "different"), 0)
     peers = {name: shutil.which(name) for name in ("ar", "llvm-ar", "llvm-readobj")}
     agreed = {name: 0 for name, program in peers.items() if program}
     for path in archives(paths):
         with open(path, "rb") as it:
             file = it.read()
-        text, status, names, imports = expected(file)
+        text, status, members, imports = expected(file)
+        names, thin = [name for name, _ in members], SIGNATURES[file[:8]]
         ran = subprocess.run([petool, "archive", path], stdout=subprocess.PIPE, stderr=subprocess.DEVNULL, check=False)
         counts["archives"] += 1
         counts["members"] += len(names)
@@ -185,8 +205,12 @@ def main():
         if (ran.stdout, ran.returncode) != (text.encode("latin-1"), status):
             counts["different"] += 1
             print(f"{path}: petool answers {ran.returncode}, and not {status}, or another text")
+        wrong, tried = different(petool, path, thin, members)
+        counts["extracted"] += tried
+        counts["different"] += len(wrong)
+        for name in wrong:
+            print(f"{path}: {name!r} is written otherwise")
         for peer in agreed:
-            thin = SIGNATURES[file[:8]]
             if peer == "llvm-readobj":
                 found, told = imports_by(peer, path), imports
             else:

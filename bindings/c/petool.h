@@ -1,5 +1,5 @@
 /*
- * petool.h: reads, checks and moves PE images, and reads COFF objects, from files that may be hostile.
+ * petool.h: reads, checks and moves PE images, and reads COFF objects and archives of them, from files that may be hostile.
  *
  * RULES, which hold for every call
  *
@@ -433,8 +433,8 @@ PETOOL_WARN_UNUSED uint32_t petool_tls_callbacks(const uint8_t *file, size_t len
 
 /* from describe/records.txt: field */
 typedef struct petool_field {
-    uint64_t value;  /* its number; 0 if the structure ends before the field does */
-    bool is_present; /* whether the structure has the field */
+    uint64_t value;  /* its number; 0 if the field is absent */
+    bool is_present; /* whether the field is there */
 } petool_field;
 /* end of describe/records.txt */
 
@@ -989,6 +989,92 @@ PETOOL_WARN_UNUSED uint32_t petool_object_relocations(const uint8_t *file, size_
 PETOOL_WARN_UNUSED uint32_t petool_object_all_relocations(const uint8_t *file, size_t len, size_t skipped,
                                                           petool_object_relocation *rows, size_t room, size_t *count,
                                                           petool_fault *fault);
+
+/* ---- archives ---- */
+
+/* OK if the file begins as an archive of COFF objects, otherwise FAULT, with 1 or 300. Allocates nothing. */
+PETOOL_WARN_UNUSED uint32_t petool_archive_check(const uint8_t *file, size_t len, petool_fault *fault);
+
+/* from describe/records.txt: member_kinds, archive_member */
+enum {
+    PETOOL_MEMBER_FILE = 0,       /* a file, mostly a COFF object */
+    PETOOL_MEMBER_IMPORT = 1,     /* a short import object */
+    PETOOL_MEMBER_LINKER = 2,     /* a linker member, which has symbols of the archive */
+    PETOOL_MEMBER_LONG_NAMES = 3, /* the member that has long names */
+    PETOOL_MEMBER_OWN = 4,        /* another one that the archive keeps for itself */
+    PETOOL_MEMBER_APART = 5       /* one of a thin archive, whose bytes are in another file */
+};
+
+typedef struct petool_archive_member {
+    petool_text name;                     /* the name; empty if its field leads to no text */
+    petool_text bytes;                    /* what it holds, without its name; empty if that is in another file */
+    uint64_t offset;                      /* the file offset of its header */
+    uint64_t size;                        /* how many bytes its header gives it, with those of a name that is at its front */
+    petool_field date, user, group, mode; /* date in seconds since 1970, mode as Unix has it */
+    uint32_t kind;
+    bool has_name;                        /* whether its name field leads to a text */
+} petool_archive_member;
+/* end of describe/records.txt */
+
+static inline void petool_archive_members_init(petool_archive_member *rows, size_t count)
+{
+    petool_archive_member none = {PETOOL_NONE, PETOOL_NONE, 0, 0, {0, false}, {0, false}, {0, false}, {0, false}, 0, false};
+    for (size_t k = 0; k < count; k++)
+        rows[k] = none;
+}
+
+/* The members, in file order and with those that the archive keeps for itself, up to the first header with one of findings 301 to 303.
+ * OK; SMALL; FAULT, with 1 or 300; or MEMORY. It allocates memory only if the archive has long names, to remember where they end. The
+ * rows must be initialized before. */
+PETOOL_WARN_UNUSED uint32_t petool_archive_members(const uint8_t *file, size_t len, petool_archive_member *rows, size_t room,
+                                                   size_t *count, petool_fault *fault);
+
+/* from describe/records.txt: archive_symbol */
+typedef struct petool_archive_symbol {
+    petool_text name;
+    petool_field member; /* the file offset of the header of the member that defines it */
+} petool_archive_symbol;
+/* end of describe/records.txt */
+
+static inline void petool_archive_symbols_init(petool_archive_symbol *rows, size_t count)
+{
+    petool_archive_symbol none = {PETOOL_NONE, {0, false}};
+    for (size_t k = 0; k < count; k++)
+        rows[k] = none;
+}
+
+/* The symbols of a linker member, 1 the first or 2 the second, in table order and up to the first one without a name. OK; SMALL;
+ * ABSENT if the archive has no such member; ARGUMENT for another number; or FAULT, with 1 or 300. Allocates nothing. The rows must
+ * be initialized before. */
+PETOOL_WARN_UNUSED uint32_t petool_archive_symbols(const uint8_t *file, size_t len, uint32_t linker, petool_archive_symbol *rows,
+                                                   size_t room, size_t *count, petool_fault *fault);
+
+/* from describe/records.txt: import_object */
+typedef struct petool_import_object {
+    petool_text symbol, module, name; /* symbol, DLL, and the name that is imported, which is empty by ordinal */
+    uint32_t time_date_stamp;         /* when it was made, as its maker wrote it */
+    uint16_t machine, ordinal;        /* the processor, and the ordinal or the hint */
+    uint8_t kind, name_type;          /* kind: 0 code, 1 data, 2 a constant; name_type: 0 by ordinal */
+} petool_import_object;
+/* end of describe/records.txt */
+
+static inline void petool_import_object_init(petool_import_object *found)
+{
+    petool_import_object none = {PETOOL_NONE, PETOOL_NONE, PETOOL_NONE, 0, 0, 0, 0, 0};
+    *found = none;
+}
+
+/* A short import object, given the bytes of a member of PETOOL_MEMBER_IMPORT. OK; ABSENT if the bytes begin as no short import
+ * object does; or FAULT, with one of 331 to 333, at offset 0 of these bytes. Allocates nothing. The record must be initialized
+ * before. */
+PETOOL_WARN_UNUSED uint32_t petool_archive_import(const uint8_t *member, size_t len, petool_import_object *found,
+                                                  petool_fault *fault);
+
+/* The findings: 301 to 304 of the members in file order, 305 and 306 of the first linker member and of the second, and then the first
+ * of 331 to 333 of each short import object. Objects are not read: petool_object_check says whether one has a fault. OK; SMALL; FAULT,
+ * with 1 or 300; or MEMORY. */
+PETOOL_WARN_UNUSED uint32_t petool_archive_findings(const uint8_t *file, size_t len, petool_fault *rows, size_t room, size_t *count,
+                                                    petool_fault *fault);
 
 /* ---- NULL with length 0 ---- */
 
@@ -1625,6 +1711,60 @@ PETOOL_WARN_UNUSED static inline uint32_t petool_nullable_object_symbols(const u
 }
 #define petool_object_symbols petool_nullable_object_symbols
 
+PETOOL_WARN_UNUSED static inline uint32_t petool_nullable_archive_check(const uint8_t *file, size_t len, petool_fault *fault)
+{
+    if (PETOOL_IS_LOST(file, len))
+        return PETOOL_ARGUMENT;
+    return petool_archive_check((const uint8_t *)petool_some(file), len, fault);
+}
+#define petool_archive_check petool_nullable_archive_check
+
+PETOOL_WARN_UNUSED static inline uint32_t petool_nullable_archive_members(const uint8_t *file, size_t len,
+                                                                          petool_archive_member *rows, size_t room, size_t *count,
+                                                                          petool_fault *fault)
+{
+    if (PETOOL_IS_LOST(file, len))
+        return PETOOL_ARGUMENT;
+    if (PETOOL_IS_LOST(rows, room))
+        return PETOOL_ARGUMENT;
+    return petool_archive_members((const uint8_t *)petool_some(file), len, (petool_archive_member *)petool_room(rows), room, count,
+                                  fault);
+}
+#define petool_archive_members petool_nullable_archive_members
+
+PETOOL_WARN_UNUSED static inline uint32_t petool_nullable_archive_symbols(const uint8_t *file, size_t len, uint32_t linker,
+                                                                          petool_archive_symbol *rows, size_t room, size_t *count,
+                                                                          petool_fault *fault)
+{
+    if (PETOOL_IS_LOST(file, len))
+        return PETOOL_ARGUMENT;
+    if (PETOOL_IS_LOST(rows, room))
+        return PETOOL_ARGUMENT;
+    return petool_archive_symbols((const uint8_t *)petool_some(file), len, linker, (petool_archive_symbol *)petool_room(rows), room,
+                                  count, fault);
+}
+#define petool_archive_symbols petool_nullable_archive_symbols
+
+PETOOL_WARN_UNUSED static inline uint32_t petool_nullable_archive_import(const uint8_t *member, size_t len,
+                                                                         petool_import_object *found, petool_fault *fault)
+{
+    if (PETOOL_IS_LOST(member, len))
+        return PETOOL_ARGUMENT;
+    return petool_archive_import((const uint8_t *)petool_some(member), len, found, fault);
+}
+#define petool_archive_import petool_nullable_archive_import
+
+PETOOL_WARN_UNUSED static inline uint32_t petool_nullable_archive_findings(const uint8_t *file, size_t len, petool_fault *rows,
+                                                                           size_t room, size_t *count, petool_fault *fault)
+{
+    if (PETOOL_IS_LOST(file, len))
+        return PETOOL_ARGUMENT;
+    if (PETOOL_IS_LOST(rows, room))
+        return PETOOL_ARGUMENT;
+    return petool_archive_findings((const uint8_t *)petool_some(file), len, (petool_fault *)petool_room(rows), room, count, fault);
+}
+#define petool_archive_findings petool_nullable_archive_findings
+
 static inline int petool_nullable_fault_line(const petool_fault *fault, char *line, size_t room)
 {
     if (PETOOL_IS_LOST(line, room))
@@ -1913,6 +2053,29 @@ PETOOL_AT(petool_object_symbol, value, 36);
 PETOOL_AT(petool_object_symbol, section_number, 40);
 PETOOL_AT(petool_object_symbol, kind, 42);
 PETOOL_AT(petool_object_symbol, class_, 44);
+PETOOL_SIZE(petool_archive_member, 120);
+PETOOL_AT(petool_archive_member, name, 0);
+PETOOL_AT(petool_archive_member, bytes, 16);
+PETOOL_AT(petool_archive_member, offset, 32);
+PETOOL_AT(petool_archive_member, size, 40);
+PETOOL_AT(petool_archive_member, date, 48);
+PETOOL_AT(petool_archive_member, user, 64);
+PETOOL_AT(petool_archive_member, group, 80);
+PETOOL_AT(petool_archive_member, mode, 96);
+PETOOL_AT(petool_archive_member, kind, 112);
+PETOOL_AT(petool_archive_member, has_name, 116);
+PETOOL_SIZE(petool_archive_symbol, 32);
+PETOOL_AT(petool_archive_symbol, name, 0);
+PETOOL_AT(petool_archive_symbol, member, 16);
+PETOOL_SIZE(petool_import_object, 64);
+PETOOL_AT(petool_import_object, symbol, 0);
+PETOOL_AT(petool_import_object, module, 16);
+PETOOL_AT(petool_import_object, name, 32);
+PETOOL_AT(petool_import_object, time_date_stamp, 48);
+PETOOL_AT(petool_import_object, machine, 52);
+PETOOL_AT(petool_import_object, ordinal, 54);
+PETOOL_AT(petool_import_object, kind, 56);
+PETOOL_AT(petool_import_object, name_type, 57);
 /* end of describe/records.txt */
 #undef PETOOL_AT
 #undef PETOOL_SIZE

@@ -8,7 +8,7 @@ import tempfile
 import unittest
 
 TOP = pathlib.Path(__file__).resolve().parents[2]
-CRATES = ("pe_records_c", "pe_tables_c", "pe_trust_c", "pe_resources_c", "pe_handle", "pe_opened", "petool_c", "pe_json")
+CRATES = ("pe_records_c", "pe_tables_c", "pe_trust_c", "pe_resources_c", "coff_archive_c", "pe_handle", "pe_opened", "petool_c", "pe_json")
 #: The crates that test faults or have a table of them.
 FAULT_CRATES = (
     "pe_text",

@@ -127,6 +127,27 @@ static uint32_t read_resources(void)
     return petool_resources(v3.at, v3.len, &row, 1, &count, &fault);
 }
 
+/* The header of a member, from its name to its end. */
+#define HEADER(name, size) name "0           0     0     644     " size "`\n"
+
+/* An archive with long names, of which one is of a member; and one of two members without names, which is finding 304 of each. */
+static const char LONG_NAMES[] = "!<arch>\n" HEADER("//              ", "4         ") "ab/\n" HEADER("/0              ", "0         ");
+static const char NO_NAMES[] = "!<arch>\n" HEADER("/4              ", "0         ") HEADER("/5              ", "0         ");
+
+static uint32_t read_members(void)
+{
+    petool_archive_member rows[2];
+    petool_archive_members_init(rows, 2);
+    return petool_archive_members((const uint8_t *)LONG_NAMES, sizeof LONG_NAMES - 1, rows, 2, &count, &fault);
+}
+
+static uint32_t find_names(void)
+{
+    petool_fault rows[2];
+    memset(rows, 0, sizeof rows);
+    return petool_archive_findings((const uint8_t *)NO_NAMES, sizeof NO_NAMES - 1, rows, 2, &count, &fault);
+}
+
 static uint32_t find_resources(void)
 {
     petool_fault row = {0, 0, 0, 0};
@@ -348,6 +369,8 @@ int main(int argc, char **argv)
     refuse_each("petool_findings", find_rules, 0);
     refuse_each("petool_findings of resources", find_resources, 0);
     refuse_each("petool_resources", read_resources, 0);
+    refuse_each("petool_archive_members", read_members, 0);
+    refuse_each("petool_archive_findings", find_names, 0);
     refuse_each("petool_image_open", open_file, 0);
     refuse_each("petool_image_open over an open image", open_over, 0);
     refuse_each("petool_image_share", share_image, 0);

@@ -1,4 +1,5 @@
-"""Checks, reads and moves PE images, and reads COFF objects, from files that may be hostile, with the proved calls of libpetool.
+"""Checks, reads and moves PE images, and reads COFF objects and archives, from files that may be hostile, with the proved calls of
+libpetool.
 
     import petool
 
@@ -25,13 +26,14 @@ What is raised:
 ``Image.text`` and ``Image.locate`` return None if there is no such string or byte.
 
 Debug data, functions, TLS, the load configuration, bound imports, the CLR header, resources, certificates and the Rich header refuse no
-image: ``Image.findings`` has each of their rules that is broken. ``Trust`` has CheckSum, certificates, signatures, Rich header and overlay of
-an image that is refused behind its headers, too.
+image: ``Image.findings`` has each of their rules that is broken, and ``Archive.findings`` those of an archive. ``Trust`` has CheckSum,
+certificates, signatures, Rich header and overlay of an image that is refused behind its headers, too.
 
 Data is any object with the buffer protocol: bytes, bytearray, memoryview, mmap. It is not copied, and nobody may change it while a
 call runs. Calls do not hold the interpreter's lock. Make no call in a forked child of a process with threads.
 """
 
+from ._archive import Archive, ArchiveMember, ArchiveSymbol, ImportObject, import_object
 from ._bytes import Buffer
 from ._fault import FormatFault, Place
 from ._image import (
@@ -84,6 +86,9 @@ __all__ = [
     "Headers",
     "Section",
     # end of describe/records.txt
+    "Archive",
+    "ArchiveMember",
+    "ArchiveSymbol",
     "Binding",
     "BoundImport",
     "Buffer",
@@ -99,6 +104,7 @@ __all__ = [
     "Function",
     "Image",
     "Import",
+    "ImportObject",
     "LoadConfiguration",
     "Moved",
     "Named",
@@ -130,6 +136,7 @@ __all__ = [
     "Version",
     "VersionString",
     "check",
+    "import_object",
     "judge",
     "name_of",
     "open",

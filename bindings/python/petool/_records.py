@@ -183,6 +183,19 @@ class SectionHeader(Structure):
     ]
 
 
+class ImportObject(Structure):
+    _fields_ = [
+        ("symbol", Text),
+        ("module", Text),
+        ("name", Text),
+        ("time_date_stamp", c_uint32),
+        ("machine", c_uint16),
+        ("ordinal", c_uint16),
+        ("kind", c_uint8),
+        ("name_type", c_uint8),
+    ]
+
+
 #: The layout of each row in the letters of `struct`: P and N are a string's pointer and length.
 FORMS = {
     "export": "QPNIIQPNPN",
@@ -204,6 +217,8 @@ FORMS = {
     "object_section": "PNPNIIIIIxxxx",
     "object_relocation": "III",
     "object_symbol": "PNPNIIHHBxxx",
+    "archive_member": "PNPNQQQ?xxxxxxxQ?xxxxxxxQ?xxxxxxxQ?xxxxxxxI?xxx",
+    "archive_symbol": "PNQ?xxxxxxx",
 }
 
 #: The result of each call, and its parameters.
@@ -325,6 +340,17 @@ CALLS: Dict[str, Tuple[Any, List[Any]]] = {
         [c_void_p, c_size_t, c_size_t, c_void_p, c_size_t, POINTER(c_size_t), POINTER(Fault)],
     ),
     "petool_object_symbols": (c_uint32, [c_void_p, c_size_t, c_void_p, c_size_t, POINTER(c_size_t), POINTER(Fault)]),
+    "petool_archive_check": (c_uint32, [c_void_p, c_size_t, POINTER(Fault)]),
+    "petool_archive_members": (c_uint32, [c_void_p, c_size_t, c_void_p, c_size_t, POINTER(c_size_t), POINTER(Fault)]),
+    "petool_archive_symbols": (
+        c_uint32,
+        [c_void_p, c_size_t, c_uint32, c_void_p, c_size_t, POINTER(c_size_t), POINTER(Fault)],
+    ),
+    "petool_archive_import": (c_uint32, [c_void_p, c_size_t, POINTER(ImportObject), POINTER(Fault)]),
+    "petool_archive_findings": (
+        c_uint32,
+        [c_void_p, c_size_t, POINTER(Fault), c_size_t, POINTER(c_size_t), POINTER(Fault)],
+    ),
     "petool_fault_words": (c_uint32, [c_uint16, POINTER(Text), POINTER(Text)]),
     "petool_fault_line": (c_int, [POINTER(Fault), c_void_p, c_size_t]),
     "petool_fault_detail": (

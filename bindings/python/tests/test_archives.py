@@ -1,5 +1,7 @@
 """Archives as `petool archive` prints them: members in the forms of several tools, import objects, and each finding by a file."""
 
+import os
+import resource
 import shutil
 import struct
 import unittest
@@ -156,6 +158,15 @@ class Archives(OverFiles, unittest.TestCase):
                 (b"fault 300 image 0 file 0x00000000\n", f"petool: a: {subject} at 0x0: {rule}\n", 1),
             )
 
+    def test_of_another_file_no_more_is_read_than_its_beginning(self):
+        with open(self.folder / "long", "wb") as it:
+            it.write(b"MZ")
+            it.truncate(3 << 30)
+        for words, given in ((["long"], None), (["-"], self.folder / "long")):
+            with open(given or os.devnull, "rb") as stdin:
+                done = run([PROGRAM, "archive", *words], cwd=self.folder, stdin=stdin, preexec_fn=lambda: resource.setrlimit(resource.RLIMIT_AS, (1 << 30, 1 << 30)))
+            self.assertEqual((done.stdout, done.returncode), (b"fault 300 image 0 file 0x00000000\n", 1))
+
     def test_a_file_of_over_4_gib_is_not_read(self):
         with open(self.folder / "large", "wb") as it:
             it.write(archive(member("a.o/")))
@@ -176,6 +187,51 @@ class Archives(OverFiles, unittest.TestCase):
         for command, line in (("object", b"fault 62 image 0 file 0x00000000\n"), ("dump", b"fault 3 image 0 file 0x00000000\n")):
             self.assertEqual(self.petool(archive(member("a.o/", O1)), command, "a").stdout, line)
 
+    def extract(self, file, name, *options):
+        """The status, the output and the errors of `--extract`."""
+        done = self.petool(file, "archive", "--extract", name, *options, "a")
+        return done.returncode, done.stdout, done.stderr.decode()
+
+    def test_a_member_by_its_name(self):
+        file = archive(
+            member("//", b"a long name of a member.o/\na long name\n"), member("a.o/", O1), member("/0", b"long"), member("/27", b"shorter"),
+            member("#1/8", b"bsd.o\0\0\0inside"), member("a.o/", b"second"), member("a b.o/", b""), member("/5", b"the end of a long name"),
+        )
+        for name, options, content in [
+            ("a.o", (), O1),
+            ("a.o", ("--index", "1"), O1),
+            ("a.o", ("--index", "2"), b"second"),
+            ("a long name of a member.o", (), b"long"),
+            ("a long name", (), b"shorter"),
+            ("g name of a member.o", (), b"the end of a long name"),
+            ("bsd.o", (), b"inside"),
+            ("a b.o", (), b""),
+            ("//", (), b"a long name of a member.o/\na long name\n"),
+        ]:
+            with self.subTest(name, options=options):
+                self.assertEqual(self.extract(file, name, *options), (0, content, ""))
+
+    def test_members_that_are_not_there(self):
+        file = archive(member("//", b"abc/\n"), member("/0", b"x"), member("a.o/", O1), member("/9", b"without a name"))
+        for name, options in [("a", ()), ("a.o", ("--index", "2")), ("ab", ()), ("abcd", ()), ("abc/", ()), ("a.o/", ()), ("", ()), ("/9", ())]:
+            with self.subTest(name, options=options):
+                self.assertEqual(self.extract(file, name, *options), (2, b"", "petool: a: there is no such member\n"))
+
+    def test_a_member_before_a_finding(self):
+        subject, rule = words_of()[303]
+        file = archive(member("a.o/", O1), header("b.o/", 2) + b"x")
+        at = 8 + 60 + len(O1) + len(O1) % 2
+        self.assertEqual(self.extract(file, "a.o"), (0, O1, ""))
+        for name in ("b.o", "c.o"):
+            self.assertEqual(self.extract(file, name), (1, b"", f"petool: a: {subject} at 0x{at:x}: {rule}\n"))
+
+    def test_no_member_of_a_thin_archive_or_of_another_file(self):
+        file = archive(member("//", b"dir/a.o/\n"), header("/0", 10000), signature=THIN)
+        self.assertEqual(self.extract(file, "dir/a.o"), (1, b"", "petool: a: the archive is thin: the member is a file of its own\n"))
+        self.assertEqual(self.extract(file, "//"), (0, b"dir/a.o/\n", ""))
+        subject, rule = words_of()[300]
+        self.assertEqual(self.extract(O1, "a.o"), (1, b"", f"petool: a: {subject} at 0x0: {rule}\n"))
+
     @unittest.skipUnless(shutil.which("ar"), "left out without ar")
     def test_an_archive_of_ar(self):
         names = ["a.o", "a name with blanks.o", "a_name_of_more_than_fifteen_letters.o"]
@@ -186,3 +242,5 @@ class Archives(OverFiles, unittest.TestCase):
         told = [line.split('"')[1] for line in text.splitlines() if line.startswith("member")]
         self.assertEqual([name for name in told if name[0] != "/"], names)
         self.assertEqual(text.count(self.object_text(O1).decode()), 3)
+        for name in names:
+            self.assertEqual(self.extract((self.folder / "made.a").read_bytes(), name), (0, O1, ""))

@@ -9,6 +9,7 @@ import tempfile
 import unittest
 
 from . import crafted
+from .test_archives import archive, member
 
 PROGRAM = os.environ.get("PETOOL_PROGRAM")
 BENCHMARK = os.environ.get("PETOOL_BENCHMARK")
@@ -101,3 +102,16 @@ class Costs(unittest.TestCase):
 
                 with self.subTest(command, name=name):
                     self.grows(5, count)
+
+    @unittest.skipUnless(PROGRAM, "left out without program: PETOOL_PROGRAM names none")
+    def test_a_member_is_looked_for_whatever_the_names(self):
+        # half of the file is one long name, and the names of all members are ends of it
+        with tempfile.TemporaryDirectory() as folder:
+
+            def count(size):
+                members = [member(f"/{at}") for at in range(size // 120)]
+                file = pathlib.Path(folder, "names.a")
+                file.write_bytes(archive(member("//", b"a" * (size // 2) + b"/\n"), *members))
+                return counted(PROGRAM, "archive", "--extract", "a", file)
+
+            self.grows(2, count)

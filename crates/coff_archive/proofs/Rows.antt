@@ -7,6 +7,7 @@ use Rattle.pe_view.specs.Faults.{first_standing}
 use Rattle.coff_archive.specs.Bytes.{number_in, decimal, big}
 use Rattle.coff_archive.specs.Imports.{field, import_of, import_tests, import_name}
 use Rattle.coff_archive.specs.Members.{members, thinness, date_of, user_of, group_of, mode_of}
+use Rattle.coff_archive.specs.Named.{named_at}
 use Rattle.coff_archive.specs.Names.{name_of}
 use Rattle.coff_archive.specs.Symbols.{offset_count, symbol_count, offset_of, symbol_member, symbols, is_cut}
 use Rattle.coff_archive.specs.declared.linker.Linker.TheVariants.{First, Second}
@@ -239,3 +240,26 @@ row_import_cut : first_standing (import_tests 8 ((0 ∷ 0 ∷ 255 ∷ 255 ∷ 0 
     ≡ Some (record { number = 331; image = 0; place = File 8 })
 unfolding field
 row_import_cut = refl
+
+-- by name: a long one that another begins with, the second of two, and no third
+abbrev named_long : List ℕ
+named_long = codes "ab/\n" ++ codes "abc/\n"
+
+row_named_long : named_at named_long (codes "ab") 0
+    (Ok (record { offset = 8; field = codes "/4              "; size = 0; bytes = [] }) ∷ Ok (record { offset = 68; field = codes "/0              "; size = 0; bytes = [] }) ∷ [])
+    ≡ Some (Ok (record { offset = 68; field = codes "/0              "; size = 0; bytes = [] }))
+unfolding is_in
+row_named_long = refl
+
+row_named_second : named_at [] (codes "a.o") 1
+    (Ok (record { offset = 8; field = codes "a.o/            "; size = 0; bytes = [] }) ∷ Ok (record { offset = 68; field = codes "a.o/            "; size = 1; bytes = 1 ∷ [] }) ∷ [])
+    ≡ Some (Ok (record { offset = 68; field = codes "a.o/            "; size = 1; bytes = 1 ∷ [] }))
+row_named_second = refl
+
+row_named_third : named_at [] (codes "a.o") 2
+    (Ok (record { offset = 8; field = codes "a.o/            "; size = 0; bytes = [] }) ∷ Err (record { number = 302; image = 0; place = File 68 }) ∷ [])
+    ≡ Some (Err (record { number = 302; image = 0; place = File 68 }))
+row_named_third = refl
+
+row_not_named : named_at [] (codes "a") 0 (Ok (record { offset = 8; field = codes "a.o/            "; size = 0; bytes = [] }) ∷ []) ≡ None
+row_not_named = refl

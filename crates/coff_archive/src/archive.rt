@@ -1,7 +1,7 @@
 //! `Archive`: an archive's file, whose members are read where they are asked.
 
-ghost use Rattle.std.specs.Prelude.{◌≡◌, Some, option_map};
-ghost use Rattle.pe_view.specs.View.{bytes_of};
+ghost use Rattle.std.specs.Prelude.{◌≡◌, ◌^◌, ◌<◌, Some, option_map};
+ghost use Rattle.pe_view.specs.View.{bytes_of, size_of};
 ghost use Rattle.coff_archive.specs.Front.{first_linker, second_linker, names_of};
 ghost use Rattle.coff_archive.specs.Members.{thinness};
 ghost use Rattle.coff_archive.specs.MemberView.{member_view};
@@ -26,6 +26,7 @@ pub struct Archive<'a> {
     pub(crate) second: Option<Member<'a>>,
     pub(crate) names: &'a [u8],
     pub(crate) names_end: u64,
+    ghost small: { size_of file < 2 ^ 64 },
     ghost kind: { thinness (bytes_of file) ≡ Some thin },
     ghost first_is: { option_map member_view first ≡ first_linker thin (bytes_of file) },
     ghost second_is: { option_map member_view second ≡ second_linker thin (bytes_of file) },

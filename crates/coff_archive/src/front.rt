@@ -1,6 +1,6 @@
 //! What stands at an archive's front: its signature, and the members that the archive keeps for itself.
 
-ghost use Rattle.std.specs.Prelude.{◌≡◌, ◌+◌, ◌≤◌, IfSome, length, option_map};
+ghost use Rattle.std.specs.Prelude.{◌≡◌, ◌+◌, ◌^◌, ◌<◌, ◌≤◌, IfSome, length, option_map};
 ghost use Rattle.std.specs.Option.{ForSome};
 ghost use Rattle.pe_view.specs.View.{bytes_of, size_of};
 ghost use Rattle.coff_archive.specs.Front.{special_at, behind};
@@ -18,8 +18,12 @@ pub(crate) const SIGNATURE_LEN: u64 = 8;
 pub(crate) fn thinness(file: View) -> Option<bool>
     ensures value { result ≡ thinness (bytes_of file.entry) }
     ensures long { IfSome result (λ _. 8 ≤ size_of file.entry) }
+    ensures small { size_of file.entry < 2 ^ 64 }
 {
-    let signature = file.slice(0, SIGNATURE_LEN)?;
+    if file.len() < SIGNATURE_LEN {
+        return None;
+    }
+    let signature = file.slice(0, SIGNATURE_LEN).unwrap();
     if signature == b"!<arch>\n".as_slice() {
         return Some(false);
     }

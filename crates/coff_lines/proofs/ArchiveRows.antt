@@ -1,6 +1,6 @@
 -- Dumps of archives by the definitions, written out: an import library with one import by name and one by ordinal, an archive that
 -- breaks rules, and a thin one.
-use Rattle.std.proofs.Common.{◌≡◌, ◌++◌, ℕ, List, [], ◌∷◌, Some, None, false, true, refl, codes}
+use Rattle.std.proofs.Common.{◌≡◌, ◌++◌, ℕ, List, [], ◌∷◌, Some, None, Ok, Err, false, true, refl, codes}
 use Rattle.std.specs.Fmt.{digits}
 use Rattle.pe_view.specs.declared.fault.Place.TheVariants.{File}
 use Rattle.pe_head.specs.Names.{machine_names}
@@ -12,6 +12,7 @@ use Rattle.pe_text.specs.FaultLine.{fault_line, fault_words, place_text}
 use Rattle.pe_text.specs.Text as text
 use Rattle.pe_text.specs.Text.{hex, quoted, escaped}
 use Rattle.coff_lines.specs.ArchiveLines.{archive_lines, archive_fault, member_line, import_line, contents_tests, contents_text}
+use Rattle.coff_lines.specs.MemberFile.{member_file}
 
 -- what comes after the name in a header: no date, no owner and no mode
 abbrev header : List ℕ → List ℕ
@@ -69,3 +70,32 @@ thin : archive_lines true (codes "!<thin>\n" ++ codes "a.o/            " ++ head
     ≡ codes "thin archive\n" ++ codes "member \"a.o\" offset 0x00000008 size 100\n" ++ codes "end\n"
 unfolding archive_lines member_line import_line contents_tests contents_text special_at behind field fault_line fault_words place_text quoted escaped hex digits
 thin = refl
+
+-- members by name: the first and the second of one, none further; why there is none; a file of its own; and a file that is no archive
+first_named : member_file import_library (codes "k.dll") 0 ≡ Some (Ok (Some by_name))
+unfolding special_at behind
+first_named = refl
+
+second_named : member_file import_library (codes "k.dll") 1 ≡ Some (Ok (Some by_ordinal))
+unfolding special_at behind
+second_named = refl
+
+no_third : member_file import_library (codes "k.dll") 2 ≡ None
+unfolding special_at behind
+no_third = refl
+
+none_by_front : member_file import_library (codes "k.dl") 0 ≡ None
+unfolding special_at behind
+none_by_front = refl
+
+ended : member_file broken (codes "k.dll") 0 ≡ Some (Err (record { number = 301; image = 0; place = File 0x44 }))
+unfolding special_at behind
+ended = refl
+
+own_file : member_file (codes "!<thin>\n" ++ codes "a.o/            " ++ header (codes "100       ")) (codes "a.o") 0 ≡ Some (Ok None)
+unfolding special_at behind
+own_file = refl
+
+no_archive : member_file (codes "MZ") (codes "a.o") 0 ≡ Some (Err (record { number = 300; image = 0; place = File 0 }))
+unfolding special_at behind
+no_archive = refl

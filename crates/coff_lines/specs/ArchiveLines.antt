@@ -1,14 +1,14 @@
 -- The dump of an archive: a line for each member, and under it what `dump_object` writes of an object, or the line of a short
 -- import object.
-use Rattle.std.specs.Prelude.{◌≡◌, ℕ, ◌==◌, ◌^◌, nat_lt, length, Bool, true, false, List, [], ◌∷◌, ◌++◌, Option, None, Some, Result, Ok, Err, codes, decimal, is_none, not, if◌then◌else◌}
+use Rattle.std.specs.Prelude.{◌≡◌, ℕ, ◌==◌, Bool, true, List, [], ◌∷◌, ◌++◌, Option, None, Some, Result, Ok, Err, codes, decimal, is_none, not, if◌then◌else◌}
 use Rattle.std.specs.List.{flat_map}
-use Rattle.std.specs.Option.{unwrap_or, option_or}
+use Rattle.std.specs.Option.{option_or}
 use Rattle.pe_view.specs.declared.fault.Fault.{Fault}
-use Rattle.pe_view.specs.declared.fault.Place.TheVariants.{File}
-use Rattle.pe_view.specs.Faults.{Test, test, first_standing}
+use Rattle.pe_view.specs.Faults.{Test, first_standing}
+use Rattle.coff_archive.specs.FileTests.{file_tests, is_thin_file}
 use Rattle.coff_archive.specs.Front.{names_of}
 use Rattle.coff_archive.specs.Imports.{Import, is_import, import_tests, import_of, import_name}
-use Rattle.coff_archive.specs.Members.{Member, at_offset, is_special, members, thinness}
+use Rattle.coff_archive.specs.Members.{Member, at_offset, is_special, members}
 use Rattle.coff_archive.specs.Names.{name_of, contents_of}
 use Rattle.pe_head.specs.Names.{name_in, machine_names}
 use Rattle.coff_read.specs.ObjectFaults.{object_tests}
@@ -94,14 +94,6 @@ archive_lines thin file = kind_line thin ++ flat_map (read_text thin (names_of t
 -- the first fault of an archive's members, in file order
 unfoldable pub archive_fault : Bool → List ℕ → Option Fault
 archive_fault thin file = first_standing (flat_map (read_tests thin (names_of thin file)) (members thin file))
-
--- what refuses a file as a whole. 1: it has over 2^32 bytes; 300: it begins with neither signature
-abbrev pub file_tests : List ℕ → List Test
-file_tests file = test 1 0 (File (2 ^ 32)) (nat_lt (2 ^ 32) (length file)) ∷ at_offset 300 0 (is_none (thinness file)) ∷ []
-
--- whether it is a thin archive, if it is one
-abbrev pub is_thin_file : List ℕ → Bool
-is_thin_file file = unwrap_or (thinness file) false
 
 abbrev pub outcome_by : Option Fault → Outcome
 outcome_by None = Done

@@ -1,5 +1,5 @@
 -- The lines of an object's dump.
-use Rattle.std.specs.Prelude.{ℕ, ◌+◌, ◌*◌, ◌==◌, Bool, if◌then◌else◌, List, [], ◌∷◌, ◌++◌, codes, decimal, flat_map, length, Option, None, Some}
+use Rattle.std.specs.Prelude.{ℕ, ◌+◌, ◌*◌, ◌==◌, Bool, if◌then◌else◌, List, [], ◌∷◌, ◌++◌, codes, decimal, flat_map, length, Option, None}
 use Rattle.std.specs.List.{list_any, range_with_len}
 use Rattle.pe_view.specs.Number.{part}
 use Rattle.pe_head.specs.Names.{name_in}

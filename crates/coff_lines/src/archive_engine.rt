@@ -1,47 +1,16 @@
 //! `dump_archive`: the engine of `petool archive`, which writes an archive's dump.
 
-ghost use Rattle.std.specs.Prelude.{◌≡◌, ◌-◌, ◌^◌, ◌<◌, ◌↔◌, Some, length, IsErrOf};
-ghost use Rattle.pe_view.specs.Faults.{Answers};
-ghost use Rattle.coff_archive.specs.ArchiveFile.{file_of, is_thin};
-ghost use Rattle.coff_archive.specs.Members.{thinness};
+ghost use Rattle.std.specs.Prelude.{◌≡◌, ◌-◌, ◌^◌, ◌<◌, ◌↔◌, length, IsErrOf};
 ghost use Rattle.pe_text.specs.Engine.{Puts, Ran};
-ghost use Rattle.coff_lines.specs.ArchiveLines.{IsArchiveText, file_tests, outcome_by};
+ghost use Rattle.coff_lines.specs.ArchiveLines.{IsArchiveText, outcome_by};
 
 use crate::archive_lines::write_archive;
-use coff_archive::Archive;
+use coff_archive::open_archive;
 use pe_text::{
     Outcome, Report, Sink, Source, TextWriter, ToolError, refuse, run_report, write_report,
 };
-use pe_view::{Fault, Place, View};
+use pe_view::Fault;
 use std::alloc::{AllocError, Allocator};
-
-/// How many bytes an archive may have.
-const MOST: u64 = 1 << 32;
-
-/// A fault of a file as a whole.
-fn file_fault(number: u16, offset: u64) -> Fault
-    ensures { result ≡ record { number = number; image = 0; place = Place.File offset } }
-{
-    Fault {
-        number,
-        image: 0,
-        place: Place::File(offset),
-    }
-}
-
-/// The archive that a file holds, or why it is refused as a whole: fault 1 or 300.
-fn open_archive(file: &[u8]) -> Result<Archive<'_>, Fault>
-    ensures { Answers (file_tests file.entry.now) (λ archive. (file_of archive ≡ file.entry.now) × (thinness file.entry.now ≡ Some (is_thin archive))) result }
-{
-    let view = View::new(file);
-    if view.len() > MOST {
-        return Err(file_fault(1, MOST));
-    }
-    match Archive::of(view) {
-        Some(archive) => Ok(archive),
-        None => Err(file_fault(300, 0)),
-    }
-}
 
 /// The outcome for the first fault, if there is one.
 fn outcome_by(fault: Option<Fault>) -> Outcome

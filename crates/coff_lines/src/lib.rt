@@ -10,14 +10,16 @@
 //! ```
 //!
 //! [`object_text`] writes the dump for a file that was read. [`dump_archive`] and [`archive_text`] write the dump of an archive of such
-//! objects: a line for each member, and after it what these write of an object.
+//! objects: a line for each member, and after it what these write of an object. [`extract_member`] gives what one of them holds.
 #![tactic(auto)]
 
 mod archive_engine;
 mod archive_lines;
 mod engine;
 pub mod laws;
+mod member_file;
 mod object_lines;
 
 pub use archive_engine::{archive_text, dump_archive};
 pub use engine::{dump_object, object_text};
+pub use member_file::{MemberFile, extract_member};

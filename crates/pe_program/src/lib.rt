@@ -11,6 +11,7 @@ mod at_job;
 mod command_line;
 mod draft;
 mod explain;
+mod extraction;
 mod file_detail;
 mod file_job;
 mod headed;

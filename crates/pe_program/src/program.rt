@@ -3,6 +3,7 @@
 use crate::at_job::run_at;
 use crate::command_line::{refuse_command_line, refuse_words, words_of};
 use crate::explain::run_explain;
+use crate::extraction::{Part, run_extraction};
 use crate::file_job::{run_file, run_files};
 use crate::map_job::{run_map, run_map_unbound};
 use crate::rebase_job::{NewFile, run_rebase};
@@ -129,6 +130,14 @@ pub fn run<R: Files + Input + Env + Print + Eprint + AllocGlobal>(rt: &R, is_ter
             run_file(rt, Engine::Object, Some(most), file.as_str())
         }
         Ok(Job::Archive { most, file }) => run_file(rt, Engine::Archive, most, file.as_str()),
+        Ok(Job::ArchiveMember { file, name, index }) => run_extraction(
+            rt,
+            file.as_str(),
+            Part::Member {
+                name: name.as_bytes(),
+                index,
+            },
+        ),
         Ok(
             Job::Map {
                 policy,

@@ -1,35 +1,12 @@
 //! The command `resource` with a LEAF: writes one resource.
 
-use crate::file_job::tell;
-use crate::input::{InputFile, name_of, open_file};
-use crate::messages::{refuse_memory, refuse_path};
-use crate::output::Output;
-use crate::statuses::{BAD_WORDS, REFUSED};
-use crate::texts::{NO_ROOM, OUTPUT_BUFFER, flushed};
-use pe_tool::{
-    Counted, Extracted, Form, Outcome, ShownName, ToolError, Wanted, Wish, extract, read_whole,
-    resource_type_number, size_fault,
-};
-use pe_view::Fault;
+use crate::extraction::{Part, run_extraction};
+use crate::messages::refuse_memory;
+use crate::statuses::BAD_WORDS;
+use pe_tool::{Form, Wanted, Wish, resource_type_number};
 use std::alloc::{AllocError, Allocator};
-use std::io::{self, BufWriter, Input, Read, Seek, Write};
+use std::io::Input;
 use std::rt::Files;
-
-/// Why a resource that was asked for was not written.
-#[derive(Clone, Copy)]
-enum Unwritten {
-    Missing,
-    NotHeld,
-    Damaged,
-}
-
-/// What became of a resource that was asked for.
-#[derive(Clone, Copy)]
-enum Told {
-    Written,
-    Unwritten(Unwritten),
-    Refused(Fault),
-}
 
 /// A name between the slashes of a word. In quotes it is a text whatever it is.
 #[derive(Clone, Copy)]
@@ -147,87 +124,6 @@ fn wanted_by<'w, A: Allocator>(names: Names<'_>, units: &'w Units<A>) -> Wanted<
     }
 }
 
-/// Reads a file, and writes a resource.
-fn write_resource<A: Allocator + Copy>(
-    alloc: A,
-    form: Form,
-    wanted: &Wanted,
-    file: impl Read + Drop,
-    size: Option<u64>,
-    output: impl Write + Drop,
-) -> Result<Told, ToolError> {
-    if let Some(fault) = size_fault(size.unwrap_or(0)) {
-        return Ok(Told::Refused(fault));
-    }
-    let file = read_whole(alloc, &mut Counted::new(file))?;
-    match extract(alloc, form, wanted, &file) {
-        Ok(Extracted::Found(found)) => match found.write(&mut Counted::new(output)) {
-            Ok(()) => Ok(Told::Written),
-            Err(_) => Err(ToolError::Write),
-        },
-        Ok(Extracted::Missing) => Ok(Told::Unwritten(Unwritten::Missing)),
-        Ok(Extracted::NotHeld) => Ok(Told::Unwritten(Unwritten::NotHeld)),
-        Ok(Extracted::Damaged) => Ok(Told::Unwritten(Unwritten::Damaged)),
-        Ok(Extracted::Refused(fault)) => Ok(Told::Refused(fault)),
-        Err(_) => Err(ToolError::Memory),
-    }
-}
-
-/// Reports why a resource was not written, and returns the exit status.
-fn tell_unwritten(rt: &impl Eprint, name: &[u8], why: Unwritten) -> u8 {
-    let (words, status) = match why {
-        Unwritten::Missing => ("there is no such resource", BAD_WORDS),
-        Unwritten::NotHeld => ("the resource is not in the file", REFUSED),
-        Unwritten::Damaged => (
-            "the resource is damaged; --raw writes it as it stands",
-            REFUSED,
-        ),
-    };
-    let name = ShownName(name);
-    let _ = eprintln!(rt; "petool: {name}: {words}");
-    status
-}
-
-/// Reports what became of a resource, and returns the exit status.
-fn tell_resource<R: Eprint + Alloc, F: Read + Seek + Drop, S: Read + Drop>(
-    rt: &R,
-    name: &[u8],
-    file: &mut InputFile<F, S>,
-    answer: Result<Told, ToolError>,
-    output: &mut Output<impl Write>,
-) -> u8
-where
-    R::A: Copy,
-{
-    let outcome = match answer {
-        Ok(Told::Written) => Ok(Outcome::Done),
-        Ok(Told::Refused(fault)) => Ok(Outcome::Refused(fault)),
-        Ok(Told::Unwritten(why)) => return tell_unwritten(rt, name, why),
-        Err(error) => Err(error),
-    };
-    tell(rt, name, file, flushed(outcome, output))
-}
-
-/// Writes a resource of an open file to standard output, and returns the exit status.
-fn write_from<R: Print + Eprint + Alloc, F: Read + Seek + Drop, S: Read + Drop>(
-    rt: &R,
-    name: &[u8],
-    mut file: InputFile<F, S>,
-    form: Form,
-    wanted: &Wanted,
-) -> u8
-where
-    R::A: Copy,
-{
-    let Ok(buffer) = BufWriter::with_capacity(rt.alloc(), OUTPUT_BUFFER, io::writer(rt)) else {
-        return tell(rt, name, &mut file, NO_ROOM);
-    };
-    let mut output = Output::new(buffer);
-    let size = file.size();
-    let answer = write_resource(rt.alloc(), form, wanted, &mut file, size, &mut output);
-    tell_resource(rt, name, &mut file, answer, &mut output)
-}
-
 /// Writes the first resource of a file that a word like `version/1/1033` calls so, and returns the exit status.
 pub(crate) fn run_resource<R: Files + Input + Print + Eprint + Alloc>(
     rt: &R,
@@ -242,16 +138,10 @@ where
         let _ = eprintln!(rt; "petool: a resource has at most three names, as in version/1/1033");
         return BAD_WORDS;
     };
-    let Ok(file_name) = name_of(rt.alloc(), path) else {
-        return refuse_memory(rt);
-    };
     let Ok(units) = all_units(rt.alloc(), names) else {
         return refuse_memory(rt);
     };
     let form = if is_raw { Form::Raw } else { Form::File };
     let wanted = wanted_by(names, &units);
-    match open_file(rt, path) {
-        Ok(file) => write_from(rt, &file_name, file, form, &wanted),
-        Err(error) => refuse_path(rt, &file_name, error),
-    }
+    run_extraction(rt, path, Part::Resource { form, wanted })
 }

@@ -5,12 +5,12 @@ ghost use Rattle.std.specs.Prelude.{◌-◌, ◌^◌, ◌<◌, ◌≤◌, OnOk};
 use crate::headed::{Headed, Heading};
 use crate::output::Output;
 use pe_tool::{
-    Beyond, Counted, Detail, Outcome, Page, PartSource, Placed, Policy, SetEntry, ShowOptions,
-    Sink, Source, Spot, ToolError, archive_text, at_each_sized, at_each_text, check_parts,
-    check_sized, check_text, dump_object_sized, dump_parts, dump_sized, dump_text, fault_detail,
-    json, json_parts, json_sized, map_report, map_report_unbound, object_text, read_whole,
-    resource_list_sized, resource_list_text, show_page, show_page_sized, size_fault, sum_sized,
-    sum_text, write_refusal,
+    Beyond, Counted, Detail, FileKind, Outcome, Page, PartSource, Placed, Policy, SetEntry,
+    ShowOptions, Sink, Source, Spot, ToolError, archive_text, at_each_sized, at_each_text,
+    check_parts, check_sized, check_text, dump_object_sized, dump_parts, dump_sized, dump_text,
+    fault_detail, file_kind, json, json_parts, json_sized, map_report, map_report_unbound,
+    object_text, read_up_to, read_whole, resource_list_sized, resource_list_text, show_page,
+    show_page_sized, size_fault, sum_sized, sum_text, write_refusal,
 };
 use pe_view::{Fault, View};
 use std::alloc::Allocator;
@@ -128,7 +128,6 @@ enum Lines<'e> {
     Check,
     Dump,
     Object,
-    Archive,
     Sum,
     At(&'e [Spot<'e>]),
     Resources,
@@ -150,7 +149,6 @@ fn lines_of<A: Allocator + Copy, W: Sink>(
         Lines::Check => check_text(alloc, file, writer),
         Lines::Dump => dump_text(alloc, file, writer),
         Lines::Object => object_text(alloc, file, writer),
-        Lines::Archive => archive_text(alloc, file, writer),
         Lines::Sum => sum_text(alloc, file, writer),
         Lines::At(spots) => at_each_text(alloc, spots, file, writer),
         Lines::Resources => resource_list_text(alloc, file, writer),
@@ -184,6 +182,37 @@ fn write_lines<A: Allocator + Copy, R: Source, W: Sink>(
     }
 }
 
+/// How many bytes the signature of an archive has.
+const SIGNATURE_LEN: usize = 8;
+
+/// How many bytes are read of a file: one more than an archive may have.
+const READ_LIMIT: usize = (1 << 32) + 1;
+
+/// Whether a file that begins so is an archive.
+fn is_archive(beginning: &[u8]) -> bool {
+    matches!(
+        file_kind(beginning),
+        Some(FileKind::Archive | FileKind::ThinArchive)
+    )
+}
+
+/// Writes the dump of an archive. Of another file no more is read than its first bytes.
+fn write_archive<A: Allocator + Copy, R: Source, W: Sink>(
+    alloc: A,
+    reader: &mut R,
+    writer: &mut W,
+) -> Result<Outcome, ToolError>
+    requires reads { R.failures reader.old < 2 ^ 64 - 1 }
+    requires writes { W.failures writer.old < 2 ^ 64 - 1 }
+{
+    let beginning = read_up_to(reader, Vec::new(alloc), SIGNATURE_LEN)?;
+    if !is_archive(&beginning.bytes) {
+        return archive_text(alloc, &beginning.bytes, writer);
+    }
+    let file = read_up_to(reader, beginning.bytes, READ_LIMIT)?;
+    archive_text(alloc, &file.bytes, writer)
+}
+
 /// Runs an engine over a file whose size is not known, which is read whole.
 fn write_whole<A: Allocator + Copy, R: Source, W: Sink>(
     alloc: A,
@@ -199,7 +228,7 @@ fn write_whole<A: Allocator + Copy, R: Source, W: Sink>(
         Engine::Check => write_lines(alloc, Lines::Check, reader, writer),
         Engine::Dump => write_lines(alloc, Lines::Dump, reader, writer),
         Engine::Object => write_lines(alloc, Lines::Object, reader, writer),
-        Engine::Archive => write_lines(alloc, Lines::Archive, reader, writer),
+        Engine::Archive => (write_archive(alloc, reader, writer), None),
         Engine::Show { options, width } => {
             let page = Page {
                 name,
@@ -241,7 +270,7 @@ fn write_sized<A: Allocator + Copy, R: Source, W: Sink>(
         Engine::Object => write_lines(alloc, Lines::Object, reader, writer),
         Engine::Archive => match size_fault(size) {
             Some(fault) => (write_refusal(writer, fault), None),
-            None => write_lines(alloc, Lines::Archive, reader, writer),
+            None => (write_archive(alloc, reader, writer), None),
         },
         Engine::Show { options, width } => {
             let page = Page {

@@ -22,7 +22,9 @@ mod unbound_imports;
 mod window;
 mod words;
 
-pub use coff_lines::{archive_text, dump_archive, dump_object, object_text};
+pub use coff_lines::{
+    MemberFile, archive_text, dump_archive, dump_object, extract_member, object_text,
+};
 pub use object_sized::dump_object_sized;
 pub use pe_at::{Spot, at, at_each, at_each_sized, at_each_text, at_sized};
 pub use pe_detail::{Detail, DetailText, fault_detail};
@@ -41,7 +43,7 @@ pub use pe_show::{Page, ShowOptions, show, show_page, show_page_sized, show_size
 pub use pe_space::{Policy, SetEntry};
 pub use pe_text::{
     Counted, Failed, FaultText, FaultWords, FileKind, Outcome, Sink, Source, ToolError,
-    fault_words, file_kind, other_kind, read_whole, status, write_refusal,
+    fault_words, file_kind, other_kind, read_up_to, read_whole, status, write_refusal,
 };
 pub use pe_words::{AtPlace, Colours, JsonOptions, MapFile, WordsError};
 pub use rebasing::{rebase, rebase_sized, rebase_summed, rebase_summed_sized};

@@ -3,6 +3,7 @@
 ghost use Rattle.std.specs.Prelude.{◌≡◌, Some, None, IfOk, IfErr, OnErr};
 ghost use Rattle.pe_words.specs.Colours.{colour_word, colours_named, IsShow};
 
+use crate::archive_words::{archive_job, with_member_options};
 use crate::builders::{argument, flag, new_command, required_argument, with_argument};
 use crate::job::{Colours, Job, JsonOptions};
 use crate::word_values::{BadValue, NoJob, size_of};
@@ -22,6 +23,8 @@ pub(crate) struct FileCommand {
     takes_several: bool,
     /// Whether it has the options for what is beyond the profile: `--all`, `--functions` and `--no-digest`.
     has_beyond: bool,
+    /// Whether it has the options for one member: `--extract` and `--index`.
+    has_members: bool,
     /// Whether it has the option `--most`.
     has_most: bool,
 }
@@ -33,6 +36,7 @@ pub(crate) const SHOW: FileCommand = FileCommand {
     file: "Images or objects, or - for standard input",
     takes_several: true,
     has_beyond: false,
+    has_members: false,
     has_most: true,
 };
 
@@ -44,6 +48,7 @@ pub(crate) const FILE_COMMANDS: [FileCommand; 6] = [
         file: "Images, or - for standard input",
         takes_several: true,
         has_beyond: false,
+        has_members: false,
         has_most: false,
     },
     FileCommand {
@@ -52,6 +57,7 @@ pub(crate) const FILE_COMMANDS: [FileCommand; 6] = [
         file: "An image, or - for standard input",
         takes_several: false,
         has_beyond: false,
+        has_members: false,
         has_most: true,
     },
     FileCommand {
@@ -60,6 +66,7 @@ pub(crate) const FILE_COMMANDS: [FileCommand; 6] = [
         file: "An object, or - for standard input",
         takes_several: false,
         has_beyond: false,
+        has_members: false,
         has_most: true,
     },
     FileCommand {
@@ -68,6 +75,7 @@ pub(crate) const FILE_COMMANDS: [FileCommand; 6] = [
         file: "An archive, or - for standard input",
         takes_several: false,
         has_beyond: false,
+        has_members: true,
         has_most: true,
     },
     FileCommand {
@@ -76,6 +84,7 @@ pub(crate) const FILE_COMMANDS: [FileCommand; 6] = [
         file: "Images or objects, or - for standard input",
         takes_several: true,
         has_beyond: true,
+        has_members: false,
         has_most: true,
     },
     FileCommand {
@@ -84,6 +93,7 @@ pub(crate) const FILE_COMMANDS: [FileCommand; 6] = [
         file: "Images, or - for standard input",
         takes_several: true,
         has_beyond: false,
+        has_members: false,
         has_most: false,
     },
 ];
@@ -155,6 +165,8 @@ fn unlimited_command<'a>(alloc: Global, row: FileCommand) -> Result<Command<'a>,
         let command = with_argument(command, flag(alloc, "all", ALL));
         let command = with_argument(command, flag(alloc, "functions", FUNCTIONS));
         with_argument(command, flag(alloc, "no-digest", NO_DIGEST))
+    } else if row.has_members {
+        with_member_options(alloc, command)
     } else {
         command
     }
@@ -356,10 +368,7 @@ fn limited_job<'a, P>(
         },
         "dump" => dump_job(file_of(alloc, found, "FILE")?, most),
         "object" => object_job(file_of(alloc, found, "FILE")?, most),
-        "archive" => Job::Archive {
-            most,
-            file: file_of(alloc, found, "FILE")?,
-        },
+        "archive" => archive_job(alloc, found, most)?,
         _ => return Ok(None),
     };
     Ok(Some(job))

@@ -113,6 +113,12 @@ pub enum Job<P> {
         most: Option<u64>,
         file: String,
     },
+    /// `archive --extract NAME FILE`: write what a member of an archive holds: of those with this name the one of this index, from 0.
+    ArchiveMember {
+        file: String,
+        name: String,
+        index: u64,
+    },
     /// `rebase HEX IN OUT`: write the file of an image for another base.
     Rebase {
         base: u64,

@@ -13,6 +13,7 @@
 //! ```
 #![tactic(auto)]
 
+mod archive_words;
 mod at_words;
 mod builders;
 mod commands;

@@ -11,6 +11,7 @@
 #![tactic(auto)]
 
 // from describe/records.txt: modules
+mod archive;
 mod bound_import;
 mod certificate;
 mod debug;

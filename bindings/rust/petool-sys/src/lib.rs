@@ -144,6 +144,19 @@ pub const PETOOL_SECTION_ABSOLUTE: u16 = 0xffff;
 /// The section number of a symbol for debuggers.
 pub const PETOOL_SECTION_DEBUG: u16 = 0xfffe;
 
+/// A member of an archive is a file, mostly a COFF object.
+pub const PETOOL_MEMBER_FILE: u32 = 0;
+/// A member of an archive is a short import object.
+pub const PETOOL_MEMBER_IMPORT: u32 = 1;
+/// A member of an archive is a linker member, which has symbols of the archive.
+pub const PETOOL_MEMBER_LINKER: u32 = 2;
+/// A member of an archive is the member that has long names.
+pub const PETOOL_MEMBER_LONG_NAMES: u32 = 3;
+/// A member of an archive is another one that the archive keeps for itself.
+pub const PETOOL_MEMBER_OWN: u32 = 4;
+/// A member of an archive is one of a thin archive, whose bytes are in another file.
+pub const PETOOL_MEMBER_APART: u32 = 5;
+
 // end of describe/records.txt
 
 /// The version of the header, as [`petool_version_number`] returns that of the library: the first part times 65,536, plus the
@@ -517,14 +530,22 @@ pub struct Callback {
     pub address: u64,
 }
 
-/// A field of the load configuration or of the CLR header.
+/// A field that may be absent: of the load configuration, of the CLR header, or of an archive.
 #[repr(C)]
 #[derive(Clone, Copy, Debug, Default, PartialEq, Eq, Hash)]
 pub struct Field {
-    /// Its number; 0 if the structure ends before the field does.
+    /// Its number; 0 if the field is absent.
     pub value: u64,
-    /// Whether the structure has the field.
+    /// Whether the field is there.
     pub is_present: bool,
+}
+
+impl Field {
+    /// Its value before a call sets it.
+    pub const NONE: Field = Field {
+        value: 0,
+        is_present: false,
+    };
 }
 
 /// A record of the bound import table: of a module, or of a module that it forwards to.
@@ -986,6 +1007,102 @@ impl ObjectSymbol {
     };
 }
 
+/// A member of an archive. The fields of its header that hold no number are absent.
+#[repr(C)]
+#[derive(Clone, Copy, Debug)]
+pub struct ArchiveMember {
+    /// The name; empty if its field leads to no text.
+    pub name: Text,
+    /// What it holds, without its name; empty if that is in another file.
+    pub bytes: Text,
+    /// The file offset of its header.
+    pub offset: u64,
+    /// How many bytes its header gives it, with those of a name that is at its front.
+    pub size: u64,
+    /// When it was written, in seconds since 1970.
+    pub date: Field,
+    /// The user who owns it.
+    pub user: Field,
+    /// The group that owns it.
+    pub group: Field,
+    /// How it may be used, as Unix has it.
+    pub mode: Field,
+    /// What it is: a `PETOOL_MEMBER`.
+    pub kind: u32,
+    /// Whether its name field leads to a text.
+    pub has_name: bool,
+}
+
+impl ArchiveMember {
+    /// Its value before a call sets it.
+    pub const NONE: ArchiveMember = ArchiveMember {
+        name: Text::NONE,
+        bytes: Text::NONE,
+        offset: 0,
+        size: 0,
+        date: Field::NONE,
+        user: Field::NONE,
+        group: Field::NONE,
+        mode: Field::NONE,
+        kind: 0,
+        has_name: false,
+    };
+}
+
+/// A symbol of a linker member.
+#[repr(C)]
+#[derive(Clone, Copy, Debug)]
+pub struct ArchiveSymbol {
+    /// The name.
+    pub name: Text,
+    /// The file offset of the header of the member that defines it; absent if the second linker member has no offset of its index.
+    pub member: Field,
+}
+
+impl ArchiveSymbol {
+    /// Its value before a call sets it.
+    pub const NONE: ArchiveSymbol = ArchiveSymbol {
+        name: Text::NONE,
+        member: Field::NONE,
+    };
+}
+
+/// A short import object, which an import library has for each name that a DLL exports.
+#[repr(C)]
+#[derive(Clone, Copy, Debug)]
+pub struct ImportObject {
+    /// The public symbol.
+    pub symbol: Text,
+    /// The DLL.
+    pub module: Text,
+    /// The name that is imported; empty if the import is by ordinal.
+    pub name: Text,
+    /// When it was made, as its maker wrote it.
+    pub time_date_stamp: u32,
+    /// The processor.
+    pub machine: u16,
+    /// The ordinal, or the hint.
+    pub ordinal: u16,
+    /// What is imported: 0 code, 1 data, 2 a constant.
+    pub kind: u8,
+    /// 0 by ordinal; otherwise how the name is made of the symbol: 1 whole, 2 without its mark, 3 up to its `@` too, 4 not of it.
+    pub name_type: u8,
+}
+
+impl ImportObject {
+    /// Its value before a call sets it.
+    pub const NONE: ImportObject = ImportObject {
+        symbol: Text::NONE,
+        module: Text::NONE,
+        name: Text::NONE,
+        time_date_stamp: 0,
+        machine: 0,
+        ordinal: 0,
+        kind: 0,
+        name_type: 0,
+    };
+}
+
 // end of describe/records.txt
 
 impl Text {
@@ -1344,6 +1461,34 @@ extern "C" {
         file: *const u8,
         len: usize,
         rows: *mut ObjectSymbol,
+        room: usize,
+        count: *mut usize,
+        fault: *mut Fault,
+    ) -> u32;
+
+    pub fn petool_archive_check(file: *const u8, len: usize, fault: *mut Fault) -> u32;
+    pub fn petool_archive_members(
+        file: *const u8,
+        len: usize,
+        rows: *mut ArchiveMember,
+        room: usize,
+        count: *mut usize,
+        fault: *mut Fault,
+    ) -> u32;
+    pub fn petool_archive_symbols(
+        file: *const u8,
+        len: usize,
+        linker: u32,
+        rows: *mut ArchiveSymbol,
+        room: usize,
+        count: *mut usize,
+        fault: *mut Fault,
+    ) -> u32;
+    pub fn petool_archive_import(member: *const u8, len: usize, found: *mut ImportObject, fault: *mut Fault) -> u32;
+    pub fn petool_archive_findings(
+        file: *const u8,
+        len: usize,
+        rows: *mut Fault,
         room: usize,
         count: *mut usize,
         fault: *mut Fault,

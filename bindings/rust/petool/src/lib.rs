@@ -1,11 +1,11 @@
-//! Reads, checks and moves PE images, and reads COFF objects, from files that may be hostile, with the proved calls of
-//! libpetool.
+//! Reads, checks and moves PE images, and reads COFF objects and archives, from files that may be hostile, with the
+//! proved calls of libpetool.
 //!
 //! An [`Image`] is a file without a fault: it is read and checked once, and the contents of its tables are kept. An
 //! [`OpenImage`] is the same without a lock, for one thread. [`Headers`] reads headers and sections only. [`Trust`] has what a file says of
 //! itself: CheckSum, certificates, signatures, Rich header and overlay. [`judge`] returns what the imports of a set of images are bound
-//! to, and [`unbound`] which are bound to nothing; a [`Space`] maps or opens a set and moves its images, and an [`Object`] is a COFF
-//! object.
+//! to, and [`unbound`] which are bound to nothing; a [`Space`] maps or opens a set and moves its images, an [`Object`] is a COFF
+//! object, and an [`Archive`] an archive of such.
 //!
 //! ```
 //! use petool::{Error, Image};
@@ -28,6 +28,7 @@
 //! call has no such error: never as success.
 #![deny(missing_docs, unsafe_op_in_unsafe_fn)]
 
+mod archive;
 mod beyond;
 mod fault;
 mod fields;
@@ -42,6 +43,7 @@ mod space;
 mod tables;
 mod trust;
 
+pub use archive::{Archive, ArchiveMember, ArchiveSymbol, ImportObject, Linker, MemberKind};
 pub use beyond::{BoundImport, Pdb, PdbSignature, Tls};
 pub use fault::{name_of, Error, Fault, MoveError, Named, OutOfMemory, Place, SetError};
 pub use fields::{ClrField, ClrHeader, LoadConfiguration, LoadField};

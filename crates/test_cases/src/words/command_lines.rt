@@ -138,6 +138,9 @@ fn print_job<R: Print>(rt: &R, job: &Job) -> Option<()> {
         Job::Object { file } => println!(rt; "object {file}").ok(),
         Job::ObjectMost { most, file } => println!(rt; "object {most} of {file}").ok(),
         Job::Archive { most, file } => println!(rt; "archive {most:?} of {file}").ok(),
+        Job::ArchiveMember { file, name, index } => println!(rt;
+            "member {index} of {name:?} of {file}"
+        ).ok(),
         Job::Map {
             policy,
             window,

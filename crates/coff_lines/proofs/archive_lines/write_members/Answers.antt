@@ -1,5 +1,5 @@
 -- One member after the other.
-use Rattle.std.proofs.Common.{◌∙◌, [], ◌++◌, ℕ, List, refl, ap, sym, subst, append-nil}
+use Rattle.std.proofs.Common.{◌∙◌, [], ◌++◌, List, refl, ap, sym, subst, append-nil}
 use Rattle.std.specs.List.{flat_map}
 use Rattle.std.specs.Option.{option_or}
 use Rattle.pe_view.specs.Faults.{first_standing}

@@ -1,0 +1,3 @@
+mod Few
+pub mod Opened
+mod Rows

@@ -1,0 +1,80 @@
+//! The words of `petool archive` that ask for one member.
+
+use crate::builders::{argument, with_argument};
+use crate::file_words::file_of;
+use crate::job::Job;
+use crate::word_values::{BadValue, NoJob};
+use clap::{ArgMatches, Command};
+use std::alloc::{AllocError, Global};
+
+/// The help on `--extract`.
+const EXTRACT: &str = "Writes what the member with this name holds, as it stands in the archive";
+
+/// The help on `--index`.
+const INDEX: &str = "Of several members with the name takes this one, counted from 1";
+
+/// The command with the options for one member.
+pub(crate) fn with_member_options<'a>(
+    alloc: Global,
+    command: Result<Command<'a>, AllocError>,
+) -> Result<Command<'a>, AllocError> {
+    let name = argument(alloc, "extract", EXTRACT)
+        .long("extract")
+        .value_name("NAME");
+    let index = argument(alloc, "index", INDEX)
+        .long("index")
+        .value_name("N");
+    with_argument(with_argument(command, name), index)
+}
+
+/// An invalid value of `--index`.
+fn bad_index<'a>(value: &'a str, reason: &'static str) -> BadValue<'a> {
+    BadValue {
+        value,
+        argument: "--index <N>",
+        reason,
+    }
+}
+
+/// Which of the members with a name is wanted, from 0: the first, unless `--index` says another.
+fn index_of<'a>(found: &ArgMatches<'a>) -> Result<u64, BadValue<'a>> {
+    let Some(value) = found.get_str("index") else {
+        return Ok(0);
+    };
+    match value.parse::<u64>() {
+        Ok(number) if number > 0 => Ok(number - 1),
+        _ => Err(bad_index(value, "not a number from 1 on")),
+    }
+}
+
+/// The job of `archive` without a member.
+fn dump_job<'a, P>(
+    found: &ArgMatches<'a>,
+    most: Option<u64>,
+    file: String,
+) -> Result<Job<P>, NoJob<'a>> {
+    match found.get_str("index") {
+        Some(value) => Err(NoJob::Bad(bad_index(value, "it counts the members of --extract"))),
+        None => Ok(Job::Archive { most, file }),
+    }
+}
+
+/// The job of `archive`, with at most `most` bytes of text.
+pub(crate) fn archive_job<'a, P>(
+    alloc: Global,
+    found: &ArgMatches<'a>,
+    most: Option<u64>,
+) -> Result<Job<P>, NoJob<'a>> {
+    let file = file_of(alloc, found, "FILE")?;
+    let Some(name) = found.get_str("extract") else {
+        return dump_job(found, most, file);
+    };
+    match index_of(found) {
+        Ok(index) => Ok(Job::ArchiveMember {
+            file,
+            name: String::from_str(alloc, name)?,
+            index,
+        }),
+        Err(bad) => Err(NoJob::Bad(bad)),
+    }
+}
