@@ -1,6 +1,6 @@
 -- Rows of the definitions, by small files worked out by hand and by an object of llvm-dlltool.
-use Rattle.std.proofs.Common.{◌≡◌, ℕ, ◌++◌, codes, refl, Bool, true, false, List, [], ◌∷◌, length, Option, Some, None}
-use Rattle.std.specs.Prelude.{Result, Ok, Err}
+use Rattle.std.proofs.Common.{◌≡◌, ℕ, ◌++◌, codes, refl, true, false, List, [], ◌∷◌, length, Some, None}
+use Rattle.std.specs.Prelude.{Ok, Err}
 use Rattle.bstr.specs.Bytes.{is_in}
 use Rattle.pe_view.specs.declared.fault.Place.TheVariants.{File}
 use Rattle.pe_view.specs.Faults.{first_standing}

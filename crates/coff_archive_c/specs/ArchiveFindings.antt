@@ -4,7 +4,8 @@ use Rattle.std.specs.List.{flat_map}
 use Rattle.std.specs.Option.{option_to_list}
 use Rattle.pe_view.specs.declared.fault.Fault.{Fault}
 use Rattle.pe_view.specs.Faults.{Test, first_standing}
-use Rattle.coff_archive.specs.Findings.{archive_tests, standing}
+use Rattle.pe_view.specs.Standing.{standing}
+use Rattle.coff_archive.specs.Findings.{archive_tests}
 use Rattle.coff_archive.specs.Imports.{import_tests, is_import}
 use Rattle.coff_archive.specs.Members.{Member, is_special, members}
 use Rattle.coff_archive.specs.Names.{contents_of}

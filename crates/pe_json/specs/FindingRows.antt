@@ -1,9 +1,9 @@
 -- The findings of an image's tables and of its file in a line of JSON.
 use Rattle.std.specs.Prelude.{ℕ, List, [], ◌∷◌, ◌++◌, codes, flat_map, map, Option, None, Some}
+use Rattle.pe_view.specs.Standing.{standing}
 use Rattle.pe_head.specs.declared.headers.Headers.{Headers}
 use Rattle.pe_layout.specs.Image.{LaidOut}
 use Rattle.pe_records.specs.FindingTests.{finding_tests}
-use Rattle.pe_records.specs.Standing.{standing}
 use Rattle.pe_resources.specs.Version.{image_version_tests}
 use Rattle.pe_resources.specs.Walk.{resource_tests}
 use Rattle.pe_trust.specs.CertificateTests.{certificate_findings_of}

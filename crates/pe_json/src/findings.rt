@@ -1,8 +1,8 @@
 //! The findings of an image's tables, of its resources and of its file.
 
 ghost use Rattle.std.specs.Prelude.{◌≡◌, ◌++◌, codes, flat_map, IfOk};
+ghost use Rattle.pe_view.specs.Standing.{standing};
 ghost use Rattle.pe_layout.specs.Layout.{headers_of, image_of};
-ghost use Rattle.pe_records.specs.Standing.{standing};
 ghost use Rattle.pe_resources.specs.Walk.{resource_tests};
 ghost use Rattle.pe_text.specs.TextWriter.{IsReady, Adds};
 ghost use Rattle.pe_view.specs.View.{bytes_of};

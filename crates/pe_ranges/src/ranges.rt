@@ -41,7 +41,19 @@ fn none_below(run: &[(u32, u32)], rva: u32) -> bool
     }
 }
 
+/// How many ranges of a run start below an RVA, found by halves.
+#[cold]
+#[inline(never)]
+fn search_below(run: &[(u32, u32)], rva: u32) -> usize
+    requires { IsAscending run.now }
+    ensures within { result ≤ length run.now }
+    ensures these { filter (λ range. nat_lt range.0 rva) run.now ≡ take result run.now }
+{
+    run.partition_point(|range| range.0 < rva)
+}
+
 /// How many ranges of a run start below an RVA. Most RVAs come before all ranges or after them, which is tested first.
+#[inline]
 fn count_below(run: &[(u32, u32)], rva: u32) -> usize
     requires { IsAscending run.now }
     ensures within { result ≤ length run.now }
@@ -52,7 +64,7 @@ fn count_below(run: &[(u32, u32)], rva: u32) -> usize
     } else if none_below(run, rva) {
         0
     } else {
-        run.partition_point(|range| range.0 < rva)
+        search_below(run, rva)
     }
 }
 
@@ -80,19 +92,28 @@ fn run_meets(run: &[(u32, u32)], start: u32, len: u32) -> bool
 }
 
 /// Whether one of these ranges has an RVA in common with the `len` bytes at `start`, found as by [`run_meets`].
-fn others_meet<A: Allocator>(others: &BTreeMap<u32, u32, A>, start: u32, len: u32) -> bool
+#[cold]
+#[inline(never)]
+fn search_others<A: Allocator>(others: &BTreeMap<u32, u32, A>, start: u32, len: u32) -> bool
     requires ascending { IsAscending others.now.entries }
     requires small { start + len < 2 ^ 32 }
     ensures { result ≡ meets_any start len others.now.entries }
 {
-    if others.is_empty() {
-        return false;
-    }
     let mut before = others.range(..start + len);
     match before.next_back() {
         Some((last, last_len)) => ends_behind(*last, *last_len, start),
         None => false,
     }
+}
+
+/// Whether one of these ranges has an RVA in common with the `len` bytes at `start`. Most tables have none of them.
+#[inline]
+fn others_meet<A: Allocator>(others: &BTreeMap<u32, u32, A>, start: u32, len: u32) -> bool
+    requires ascending { IsAscending others.now.entries }
+    requires small { start + len < 2 ^ 32 }
+    ensures { result ≡ meets_any start len others.now.entries }
+{
+    !others.is_empty() && search_others(others, start, len)
 }
 
 impl<A: Allocator + Copy> Ranges<A> {
@@ -110,6 +131,7 @@ impl<A: Allocator + Copy> Ranges<A> {
     }
 
     /// Whether some range has an RVA in common with the `len` bytes at `start`.
+    #[inline]
     pub fn meets(&self, start: u32, len: u32) -> bool
         requires { start + len < 2 ^ 32 }
         ensures { result ≡ meets_any start len (ranges_in self.now) }
@@ -119,6 +141,7 @@ impl<A: Allocator + Copy> Ranges<A> {
 
     /// Adds a range, which ends no sooner than those that start before it, no later than those that start after it, and where those
     /// end that start with it.
+    #[inline]
     pub fn add(&mut self, start: u32, len: u32) -> Result<(), AllocError>
         requires { All (FitsBeside start len) (ranges_in self.old) }
         ensures { OnOk result (Gains (ranges_in self.old) (ranges_in self.new) (start, len)) }

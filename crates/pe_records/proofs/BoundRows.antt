@@ -3,10 +3,10 @@ use Rattle.std.proofs.Common.{◌≡◌, ℕ, ◌-◌, false, List, [], ◌∷�
 use Rattle.std.specs.Prelude.{◌==◌, if◌then◌else◌}
 use Rattle.pe_view.specs.declared.fault.Fault.{Fault}
 use Rattle.pe_view.specs.declared.fault.Place.TheVariants.{Rva}
+use Rattle.pe_view.specs.Standing.{standing}
 use Rattle.pe_layout.specs.Image.{LaidOut}
 use Rattle.pe_records.specs.BoundImports.{bound_imports_in}
 use Rattle.pe_records.specs.BoundImportTests.{bound_tests}
-use Rattle.pe_records.specs.Standing.{standing}
 use Rattle.pe_records.specs.declared.bound_imports.BoundImport.{BoundImport}
 
 abbrev bound : ℕ → ℕ → ℕ → BoundImport

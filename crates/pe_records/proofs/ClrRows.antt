@@ -4,9 +4,9 @@ use Rattle.std.specs.Prelude.{◌==◌, if◌then◌else◌}
 use Rattle.std.specs.List.{range_with_len}
 use Rattle.pe_view.specs.declared.fault.Fault.{Fault}
 use Rattle.pe_view.specs.declared.fault.Place.TheVariants.{Rva}
+use Rattle.pe_view.specs.Standing.{standing}
 use Rattle.pe_layout.specs.Image.{LaidOut}
 use Rattle.pe_records.specs.ClrHeader.{clr_fields, clr_tests}
-use Rattle.pe_records.specs.Standing.{standing}
 use Rattle.pe_records.specs.Structure.{field_in}
 
 -- the numbers 1 to 72

@@ -3,13 +3,13 @@ use Rattle.std.proofs.Common.{◌≡◌, ℕ, ◌-◌, false, List, [], ◌∷�
 use Rattle.std.specs.Prelude.{◌==◌, codes, if◌then◌else◌}
 use Rattle.pe_view.specs.declared.fault.Fault.{Fault}
 use Rattle.pe_view.specs.declared.fault.Place.TheVariants.{Rva}
+use Rattle.pe_view.specs.Standing.{standing}
 use Rattle.pe_head.specs.declared.directory.Directory.{Directory}
 use Rattle.pe_layout.specs.Image.{LaidOut}
 use Rattle.pe_records.specs.CodeView.{SevenZero, TwoZero, Other, code_view_of}
 use Rattle.pe_records.specs.Debug.{data_of, debug_entry_at}
 use Rattle.pe_records.specs.DebugTests.{entry_tests}
 use Rattle.pe_records.specs.Records.{record_before, records_in, table_bytes}
-use Rattle.pe_records.specs.Standing.{standing}
 use Rattle.pe_records.specs.TableTests.{table_tests}
 use Rattle.pe_records.specs.declared.debug.DebugEntry.{DebugEntry}
 

@@ -5,16 +5,8 @@ use Rattle.std.proofs.lemmas.List.{flat_map_more}
 use Rattle.pe_view.specs.Faults.{Test, test}
 use Rattle.pe_view.specs.declared.fault.Fault.{Fault}
 use Rattle.pe_view.specs.declared.fault.Place.{Place}
-use Rattle.pe_records.specs.Standing.{standing, tests_at}
-
-here : (b : Bool) (y : Fault) (xs ys : List Fault) → cond b (y ∷ (xs ++ ys)) (xs ++ ys) ≡ cond b (y ∷ xs) xs ++ ys
-here true y xs ys = refl
-here false y xs ys = refl
-
--- two tables, one after the other
-pub standing-append : (xs ys : List Test) → standing (xs ++ ys) ≡ standing xs ++ standing ys
-standing-append [] ys = refl
-standing-append (t ∷ ts) ys = ap (λ (rest : List Fault). cond t.stands (t.fault ∷ rest) rest) (standing-append ts ys) ∙ here t.stands t.fault (standing ts) (standing ys)
+use Rattle.pe_view.specs.AllStanding.{standing-append}
+use Rattle.pe_view.specs.Standing.{standing, tests_at}
 
 -- one number more
 range_more : (a n : ℕ) → range_with_len a (suc n) ≡ range_with_len a n ++ (a + n) ∷ []
@@ -47,11 +39,3 @@ rule_more image place number true rules old new whole before after =
     ap (λ (fs : List Fault). fs ++ standing (tests_at image place rules)) after ∙ append_assoc old (fault ∷ []) (standing (tests_at image place rules)) ∙ before
 rule_more image place number false rules old new whole before after =
     ap (λ (fs : List Fault). fs ++ standing (tests_at image place rules)) after ∙ append_assoc old [] (standing (tests_at image place rules)) ∙ before
-
--- what two tables of rules find, one after the other
-pub both_found : (xs ys : List Test) (old middle new : List Fault) → middle ≡ old ++ standing xs → new ≡ middle ++ standing ys → new ≡ old ++ standing (xs ++ ys)
-both_found xs ys old middle new first second =
-    second
-    ∙ ap (λ (fs : List Fault). fs ++ standing ys) first
-    ∙ append_assoc old (standing xs) (standing ys)
-    ∙ ap (λ (fs : List Fault). old ++ fs) (sym (standing-append xs ys))

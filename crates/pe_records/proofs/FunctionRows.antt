@@ -3,12 +3,12 @@ use Rattle.std.proofs.Common.{◌≡◌, ℕ, false, List, [], ◌∷◌, Option
 use Rattle.std.specs.Prelude.{◌==◌, if◌then◌else◌}
 use Rattle.pe_view.specs.declared.fault.Fault.{Fault}
 use Rattle.pe_view.specs.declared.fault.Place.TheVariants.{Rva}
+use Rattle.pe_view.specs.Standing.{standing}
 use Rattle.pe_layout.specs.Image.{LaidOut}
 use Rattle.pe_records.specs.ArmFunctions as arm
 use Rattle.pe_records.specs.Exceptions.{exception_tests}
 use Rattle.pe_records.specs.Functions.{function_at, function_tests}
 use Rattle.pe_records.specs.Records.{records_in}
-use Rattle.pe_records.specs.Standing.{standing}
 use Rattle.pe_records.specs.declared.arm_function.ArmFunction.{ArmFunction}
 use Rattle.pe_records.specs.declared.function.Function.{Function}
 

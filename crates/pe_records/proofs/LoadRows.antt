@@ -4,11 +4,11 @@ use Rattle.std.specs.Prelude.{◌==◌, if◌then◌else◌}
 use Rattle.std.specs.List.{range_with_len}
 use Rattle.pe_view.specs.declared.fault.Fault.{Fault}
 use Rattle.pe_view.specs.declared.fault.Place.TheVariants.{Rva}
+use Rattle.pe_view.specs.Standing.{standing}
 use Rattle.pe_layout.specs.Image.{LaidOut}
 use Rattle.pe_records.specs.LoadConfiguration.{load_bytes}
 use Rattle.pe_records.specs.LoadTables.{load_table_in}
 use Rattle.pe_records.specs.LoadTests.{load_tests}
-use Rattle.pe_records.specs.Standing.{standing}
 use Rattle.pe_records.specs.Structure.{field, field_in}
 use Rattle.pe_records.specs.declared.load_tables.LoadTableKind.TheVariants.{Handlers, Functions, EhContinuations, IatEntries, LongJumpTargets}
 use Rattle.pe_records.specs.declared.structure.Width.TheVariants.{Two, Four, Address}

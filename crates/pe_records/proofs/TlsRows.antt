@@ -3,9 +3,9 @@ use Rattle.std.proofs.Common.{◌≡◌, ℕ, ◌-◌, false, List, [], ◌∷�
 use Rattle.std.specs.Prelude.{option_map, ◌==◌, if◌then◌else◌}
 use Rattle.pe_view.specs.declared.fault.Fault.{Fault}
 use Rattle.pe_view.specs.declared.fault.Place.TheVariants.{Rva}
+use Rattle.pe_view.specs.Standing.{standing}
 use Rattle.pe_layout.specs.Image.{LaidOut}
 use Rattle.pe_records.specs.Callbacks.{addresses, callbacks_of}
-use Rattle.pe_records.specs.Standing.{standing}
 use Rattle.pe_records.specs.TlsFields.{tls_in}
 use Rattle.pe_records.specs.TlsTests.{tls_tests}
 use Rattle.pe_records.specs.declared.tls_directory.TlsDirectory.{TlsDirectory}

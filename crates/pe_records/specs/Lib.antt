@@ -24,7 +24,6 @@ pub mod LoadFields
 pub mod LoadTables
 pub mod LoadTests
 pub mod Records
-pub mod Standing
 pub mod Structure
 pub mod TableNames
 pub mod TableTests

@@ -2,9 +2,9 @@
 
 ghost use Rattle.std.proofs.Common.{lit≤};
 ghost use Rattle.std.specs.Prelude.{◌≡◌};
+ghost use Rattle.pe_view.specs.Standing.{Adds};
 ghost use Rattle.pe_layout.specs.Layout.{image_of};
 ghost use Rattle.pe_view.specs.View.{bytes_of};
-ghost use Rattle.pe_records.specs.Standing.{Adds};
 ghost use Rattle.pe_records.specs.ArmFunctions.{arm_function_at, arm_function_tests, begins_early, is_lost};
 
 use crate::finding::add;

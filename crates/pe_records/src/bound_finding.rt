@@ -2,9 +2,9 @@
 
 ghost use Rattle.std.specs.Prelude.{◌≡◌};
 ghost use Rattle.pe_view.specs.View.{bytes_of};
+ghost use Rattle.pe_view.specs.Standing.{Adds};
 ghost use Rattle.pe_layout.specs.Layout.{image_of};
 ghost use Rattle.pe_records.specs.BoundImportTests.{bound_tests, records_tests};
-ghost use Rattle.pe_records.specs.Standing.{Adds};
 
 use crate::bound_imports::BoundImports;
 use crate::finding::add;

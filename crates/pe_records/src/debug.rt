@@ -2,10 +2,10 @@
 
 ghost use Rattle.std.proofs.Common.{lit≤};
 ghost use Rattle.std.specs.Prelude.{◌≡◌, option_map};
+ghost use Rattle.pe_view.specs.Standing.{Adds};
 ghost use Rattle.pe_layout.specs.Layout.{image_of};
 ghost use Rattle.pe_view.specs.View.{bytes_of};
 ghost use Rattle.pe_records.specs.Debug.{debug_entry_at, data_of};
-ghost use Rattle.pe_records.specs.Standing.{Adds};
 ghost use Rattle.pe_records.specs.DebugTests.{entry_tests, is_early, is_endless, passes_file, passes_image};
 
 use crate::finding::add;

@@ -2,9 +2,9 @@
 
 ghost use Rattle.std.specs.Prelude.{◌≡◌};
 ghost use Rattle.pe_view.specs.View.{bytes_of};
+ghost use Rattle.pe_view.specs.Standing.{Adds};
 ghost use Rattle.pe_layout.specs.Layout.{headers_of, image_of};
 ghost use Rattle.pe_records.specs.Exceptions.{Holds, exception_tests};
-ghost use Rattle.pe_records.specs.Standing.{Adds};
 
 use crate::arm_function::ArmFunction;
 use crate::function::Function;

@@ -1,7 +1,7 @@
 //! `add`: the findings of one place.
 
 ghost use Rattle.std.specs.Prelude.{◌≡◌};
-ghost use Rattle.pe_records.specs.Standing.{Adds, tests_at};
+ghost use Rattle.pe_view.specs.Standing.{Adds, tests_at};
 
 use pe_view::{Fault, Place};
 use std::alloc::{AllocError, Allocator};

@@ -2,9 +2,9 @@
 
 ghost use Rattle.std.specs.Prelude.{◌≡◌, ◌≢◌, [], IfOk, OnErr};
 ghost use Rattle.pe_view.specs.View.{bytes_of};
+ghost use Rattle.pe_view.specs.Standing.{Adds, standing};
 ghost use Rattle.pe_layout.specs.Layout.{headers_of, image_of};
 ghost use Rattle.pe_records.specs.FindingTests.{finding_tests};
-ghost use Rattle.pe_records.specs.Standing.{Adds, standing};
 
 use crate::bound_finding::find_bound_imports;
 use crate::clr_fields::find_clr;

@@ -3,9 +3,9 @@
 ghost use Rattle.std.specs.Prelude.{◌≡◌, ℕ, List, Option, ◌+◌, ◌<◌, ◌≤◌, ◌^◌};
 ghost use Rattle.pe_view.specs.View.{bytes_of, size_of};
 ghost use Rattle.pe_view.specs.Faults.{Test};
+ghost use Rattle.pe_view.specs.Standing.{Adds};
 ghost use Rattle.pe_layout.specs.Image.{LaidOut};
 ghost use Rattle.pe_layout.specs.Layout.{image_of};
-ghost use Rattle.pe_records.specs.Standing.{Adds};
 
 use pe_layout::Layout;
 use pe_view::{Fault, View};

@@ -1,10 +1,10 @@
 //! The findings of a TLS directory and its callbacks.
 
 ghost use Rattle.std.specs.Prelude.{◌≡◌};
+ghost use Rattle.pe_view.specs.Standing.{Adds};
 ghost use Rattle.pe_layout.specs.Layout.{image_of};
 ghost use Rattle.pe_records.specs.Callbacks.{entries_tests};
 ghost use Rattle.pe_records.specs.CallbackView.{callback_table};
-ghost use Rattle.pe_records.specs.Standing.{Adds};
 ghost use Rattle.pe_records.specs.TlsFields.{is_backward, strays, structure_tests};
 ghost use Rattle.pe_records.specs.TlsTests.{callbacks_tests, tls_tests};
 

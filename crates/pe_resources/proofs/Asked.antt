@@ -2,16 +2,8 @@
 use Rattle.std.proofs.Common.{◌≡◌, ◌∙◌, refl, Bool, true, false, cond, List, [], ◌∷◌, ◌++◌, sym, ap, append_assoc, append-nil}
 use Rattle.pe_view.specs.Faults.{Test}
 use Rattle.pe_view.specs.declared.fault.Fault.{Fault}
-use Rattle.pe_records.specs.Standing.{standing}
-
-here : (b : Bool) (y : Fault) (xs ys : List Fault) → cond b (y ∷ (xs ++ ys)) (xs ++ ys) ≡ cond b (y ∷ xs) xs ++ ys
-here true y xs ys = refl
-here false y xs ys = refl
-
--- two tables, one after the other
-pub standing-append : (xs ys : List Test) → standing (xs ++ ys) ≡ standing xs ++ standing ys
-standing-append [] ys = refl
-standing-append (t ∷ ts) ys = ap (λ (rest : List Fault). cond t.stands (t.fault ∷ rest) rest) (standing-append ts ys) ∙ here t.stands t.fault (standing ts) (standing ys)
+use Rattle.pe_view.specs.AllStanding.{standing-append}
+use Rattle.pe_view.specs.Standing.{standing}
 
 -- a further test that stands
 pub one_stands : (ts : List Test) (y z : Fault) (b : Bool) (old new : List Fault) → old ≡ standing ts → new ≡ old ++ y ∷ [] → y ≡ z → b ≡ true → new ≡ standing (ts ++ record { stands = b; fault = z } ∷ [])

@@ -5,6 +5,7 @@ use Rattle.std.proofs.Math.Nat.{min-le_right, min-eq_left}
 use Rattle.std.specs.List.{list_any}
 use Rattle.std.proofs.lemmas.Bool.{eq-eqb, ne_eqb, leb-true, le-leb, lt-leb, ltb-false, lt-ltb, cases_Bool, cases_lt}
 use Rattle.std.proofs.lemmas.List.Folds.{list_any_at}
+use Rattle.pe_view.specs.Standing.{standing}
 use Rattle.pe_layout.specs.Image.{LaidOut, is_inside}
 use Rattle.pe_ranges.specs.Ranges.{meets, meets_any, FitsBeside, SameRanges, Gains}
 use Rattle.pe_resources.specs.declared.found.Found.{Found}
@@ -13,7 +14,6 @@ use Rattle.pe_resources.specs.declared.leaf.Path.{Path}
 use Rattle.pe_resources.specs.Found.{Shows, is_empty}
 use Rattle.pe_resources.specs.Leaves.{leaf_at}
 use Rattle.pe_resources.specs.Section.{is_held, entry_count, whole_count}
-use Rattle.pe_records.specs.Standing.{standing}
 use Rattle.pe_resources.specs.Walk.{Walk, asked, finding, read_leaf, directory_tests, whole_len, is_shared, is_entered}
 use Rattle.pe_resources.proofs.Asked.{two, three}
 

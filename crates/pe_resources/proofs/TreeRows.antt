@@ -4,8 +4,8 @@ use Rattle.std.specs.Prelude.{◌==◌, if◌then◌else◌}
 use Rattle.pe_view.specs.Number.{little}
 use Rattle.pe_view.specs.declared.fault.Fault.{Fault}
 use Rattle.pe_view.specs.declared.fault.Place.TheVariants.{Rva}
+use Rattle.pe_view.specs.Standing.{standing}
 use Rattle.pe_layout.specs.Image.{LaidOut}
-use Rattle.pe_records.specs.Standing.{standing}
 use Rattle.pe_resources.specs.Single.{version_of, manifest_of}
 use Rattle.pe_resources.specs.Texts.{name_text_of}
 use Rattle.pe_resources.specs.Walk.{leaves_of, resource_tests}

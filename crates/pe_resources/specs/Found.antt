@@ -1,11 +1,11 @@
 -- What the code has read, as the walk tells it.
 use Rattle.std.specs.Prelude.{◌≡◌, ℕ, Bool, true, false, nat_lt, Option, Some, None}
 use Rattle.std.specs.List.{list_any}
+use Rattle.pe_view.specs.Standing.{standing}
 use Rattle.pe_layout.specs.Image.{LaidOut}
 use Rattle.pe_ranges.specs.Ranges.{SameRanges}
 use Rattle.pe_ranges.specs.RangesView.{ranges_in}
 use Rattle.pe_resources.specs.Section.{whole_count}
-use Rattle.pe_records.specs.Standing.{standing}
 use Rattle.pe_resources.specs.Walk.{Walk, asked, directory_tests, is_entered, entered}
 use Rattle.pe_resources.specs.declared.found.Found.{Found}
 

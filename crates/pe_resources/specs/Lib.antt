@@ -2,7 +2,7 @@ pub use Rattle.pe_view.specs.Faults
 pub use Rattle.pe_layout.specs.Image
 pub use Rattle.pe_layout.specs.Layout
 pub use Rattle.pe_ranges.specs.Ranges
-pub use Rattle.pe_records.specs.Standing
+pub use Rattle.pe_view.specs.Standing
 pub use Rattle.pe_version.specs.Findings
 pub mod Costs
 pub mod Entry

@@ -1,8 +1,8 @@
 //! `version_data` and `version_findings`: the bytes of an image's version information, and the rules of these that are broken.
 
 ghost use Rattle.std.specs.Prelude.{◌≡◌, IfOk, option_map};
+ghost use Rattle.pe_view.specs.Standing.{standing};
 ghost use Rattle.pe_layout.specs.Layout.{image_of};
-ghost use Rattle.pe_records.specs.Standing.{standing};
 ghost use Rattle.pe_resources.specs.Version.{version_data_of, image_version_tests};
 
 use crate::single::version;

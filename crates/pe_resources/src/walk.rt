@@ -1,8 +1,8 @@
 //! `leaves`: the whole resource tree of an image.
 
 ghost use Rattle.std.specs.Prelude.{◌≡◌, None, IfOk, IsOk};
+ghost use Rattle.pe_view.specs.Standing.{standing};
 ghost use Rattle.pe_layout.specs.Layout.{image_of};
-ghost use Rattle.pe_records.specs.Standing.{standing};
 ghost use Rattle.pe_resources.specs.Walk.{walk_of, leaves_of, resource_tests};
 ghost use Rattle.pe_resources.specs.Found.{Shows};
 

@@ -1,9 +1,9 @@
 -- All findings of an image's file, with those of its resources.
 use Rattle.std.specs.Prelude.{◌≢◌, ◌⊎◌, ℕ, List, [], ◌++◌, Option, None, Some}
 use Rattle.pe_view.specs.declared.fault.Fault.{Fault}
+use Rattle.pe_view.specs.Standing.{standing}
 use Rattle.pe_head.specs.Head.{head_of}
 use Rattle.pe_layout.specs.Image.{LaidOut, image_of_file}
-use Rattle.pe_records.specs.Standing.{standing}
 use Rattle.pe_records_c.specs.Wants.{IsLaidOut}
 use Rattle.pe_resources.specs.Single.{version_of}
 use Rattle.pe_resources.specs.Texts.{data_of}

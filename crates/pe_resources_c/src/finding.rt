@@ -1,9 +1,9 @@
 //! The findings of an image's tables: those of its resources, and those of the other tables beyond the profile.
 
 ghost use Rattle.std.specs.Prelude.{◌≡◌, ◌≢◌, ◌⊎◌, [], None, IfOk, OnErr};
+ghost use Rattle.pe_view.specs.Standing.{standing};
 ghost use Rattle.pe_layout.specs.Layout.{headers_of, image_of};
 ghost use Rattle.pe_records.specs.FindingTests.{finding_tests};
-ghost use Rattle.pe_records.specs.Standing.{standing};
 ghost use Rattle.pe_view.specs.View.{bytes_of};
 ghost use Rattle.pe_resources_c.specs.ResourceFindings.{resource_findings, version_found};
 

@@ -1,10 +1,10 @@
 -- The findings of an image's file.
 use Rattle.std.specs.Prelude.{◌≢◌, ℕ, List, []}
 use Rattle.pe_view.specs.declared.fault.Fault.{Fault}
+use Rattle.pe_view.specs.Standing.{standing}
 use Rattle.pe_head.specs.Head.{head_of}
 use Rattle.pe_layout.specs.Image.{image_of_file}
 use Rattle.pe_records.specs.FindingTests.{finding_tests}
-use Rattle.pe_records.specs.Standing.{standing}
 use Rattle.pe_records_c.specs.Wants.{IsLaidOut}
 
 unfoldable pub findings_of : List ℕ → List Fault

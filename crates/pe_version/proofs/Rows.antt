@@ -2,7 +2,7 @@
 use Rattle.std.proofs.Common.{◌≡◌, refl, ℕ, List, [], ◌∷◌, Some}
 use Rattle.std.specs.Prelude.{codes}
 use Rattle.std.specs.Char.Utf16.{utf16_chars}
-use Rattle.pe_records.specs.Standing.{standing}
+use Rattle.pe_view.specs.Standing.{standing}
 use Rattle.pe_version.specs.Findings.{version_tests}
 use Rattle.pe_version.specs.FixedInfo.{fixed_info_of, version_of}
 use Rattle.pe_version.specs.Parts.{utf16}

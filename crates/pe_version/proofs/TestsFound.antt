@@ -3,30 +3,14 @@ use Rattle.std.proofs.Common.{◌≡◌, ◌∙◌, refl, ℕ, suc, Bool, true, 
 use Rattle.std.specs.Prelude.{if◌then◌else◌, is_some, Option, Some, None}
 use Rattle.pe_view.specs.Faults.{Test}
 use Rattle.pe_view.specs.declared.fault.Fault.{Fault}
-use Rattle.pe_records.specs.Standing.{standing}
+use Rattle.pe_view.specs.AllStanding.{both_found, standing-append}
+use Rattle.pe_view.specs.Standing.{standing}
 use Rattle.pe_version.specs.Block.{has_key_end, body_of}
 use Rattle.pe_version.specs.Blocks.{is_block, block_end, aligned}
 use Rattle.pe_version.specs.Findings.{finding, end_tests, is_read, block_tests, level_tests, version_tests}
 use Rattle.pe_version.specs.FixedInfo.{has_fixed_info}
 use Rattle.pe_version.specs.Root.{files_at, files_end}
 use Rattle.pe_version.proofs.Stepping.{step, stop}
-
-here : (b : Bool) (y : Fault) (xs ys : List Fault) → cond b (y ∷ (xs ++ ys)) (xs ++ ys) ≡ cond b (y ∷ xs) xs ++ ys
-here true y xs ys = refl
-here false y xs ys = refl
-
--- two tables, one after the other
-pub standing-append : (xs ys : List Test) → standing (xs ++ ys) ≡ standing xs ++ standing ys
-standing-append [] ys = refl
-standing-append (t ∷ ts) ys = ap (λ (rest : List Fault). cond t.stands (t.fault ∷ rest) rest) (standing-append ts ys) ∙ here t.stands t.fault (standing ts) (standing ys)
-
--- what two lists of tests find, one after the other
-pub both_found : (xs ys : List Test) (old middle new : List Fault) → middle ≡ old ++ standing xs → new ≡ middle ++ standing ys → new ≡ old ++ standing (xs ++ ys)
-both_found xs ys old middle new first second =
-    second
-    ∙ ap (λ (fs : List Fault). fs ++ standing ys) first
-    ∙ append_assoc old (standing xs) (standing ys)
-    ∙ ap (λ (fs : List Fault). old ++ fs) (sym (standing-append xs ys))
 
 module _ (image rva : ℕ) (bytes : List ℕ) (levels below end at : ℕ) (deep : levels ≡ suc below) where
   -- the levels of a block, and of those after it

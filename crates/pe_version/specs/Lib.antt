@@ -1,7 +1,7 @@
 pub use Rattle.pe_view.specs.Faults
 pub use Rattle.pe_view.specs.Number
 pub use Rattle.pe_view.specs.View
-pub use Rattle.pe_records.specs.Standing
+pub use Rattle.pe_view.specs.Standing
 pub mod Block
 pub mod Blocks
 pub mod Findings

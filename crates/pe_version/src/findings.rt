@@ -2,7 +2,7 @@
 
 ghost use Rattle.std.specs.Prelude.{◌≡◌, if◌then◌else◌, ◌++◌, ◌∷◌, [], ◌+◌, ◌≤◌, ◌<◌, ◌^◌, OnOk, IfOk, IsTrue, length};
 ghost use Rattle.pe_view.specs.View.{bytes_of, size_of};
-ghost use Rattle.pe_records.specs.Standing.{standing};
+ghost use Rattle.pe_view.specs.Standing.{standing};
 ghost use Rattle.pe_version.specs.Block.{place_of};
 ghost use Rattle.pe_version.specs.Findings.{finding, end_tests, is_read, level_tests, version_tests};
 

@@ -1,7 +1,9 @@
+pub mod AllStanding
 pub mod Digits
 pub mod Faults
 pub mod FirstStanding
 pub mod Number
+pub mod Standing
 pub mod Text
 pub mod TextEnds
 pub mod View

@@ -16,7 +16,7 @@ pub enum Place {
 /// A broken rule of the format: its number in docs/FAULTS.md, the image that breaks it, and the place.
 #[derive(Clone, Copy, Debug, PartialEq, Eq)]
 pub struct Fault {
-    /// The fault's number, from 1 to 85.
+    /// The number: of a fault from 1 to 93, of a finding from 101 on.
     pub number: u16,
     /// The number that the caller gave the image; 0 for objects and for calls that name no image.
     pub image: u16,

@@ -1,13 +1,33 @@
 -- One symbol after the other.
-use Rattle.std.proofs.Common.{List}
+use Rattle.std.proofs.Common.{◌≢◌, []}
+use Rattle.std.proofs.lemmas.Result.{err_from_is_err_and}
+use Rattle.std.specs.List.{flat_map}
 use Rattle.std.specs.Option.{option_to_list}
+use Rattle.pe_view.specs.AllStanding.{adds_wants}
+use Rattle.pe_view.specs.Standing.{standing}
 use Rattle.coff_archive.specs.ArchiveFile.{file_of, is_thin}
 use Rattle.coff_archive.specs.Findings.{symbol_tests}
+use Rattle.coff_archive.specs.Symbols.{symbols}
 use Rattle.coff_archive.specs.SymbolsLeft.{symbol_view}
-use Rattle.coff_archive.proofs.Found.{found_more}
+use Rattle.coff_archive.proofs.Found.{found_more, some_here, some_more}
 use Rattle.coff_archive.proofs.archive_findings.find_symbols.Goals as goal
 
 pub loop-symbol-preserved : goal.loop-symbol-preserved
 loop-symbol-preserved g c =
     let a = c.args.archive.now in
-    found_more (symbol_tests (is_thin a) (file_of a) c.args.member.offset) (symbol_view c.in-Some.symbol) _ _ c.loop-symbol.found.items _ (option_to_list c.symbol_finding.result) _ c.in-Some.ensures.steps c.in_ok-add.ensures c.symbol_finding.ensures c.loop-symbol.invariant
+    let tests = symbol_tests (is_thin a) (file_of a) c.args.member.offset in
+    let all = symbols c.args.linker c.args.member.bytes.now in
+    let inv = c.loop-symbol.invariant in
+    let more = found_more tests (symbol_view c.in-Some.symbol) _ _ all c.in-Some.ensures.steps c.loop-symbol.found.items _ (option_to_list c.symbol_finding.result) _ c.in_ok-add.ensures.adds c.symbol_finding.ensures inv.0 in
+    (more, some_more tests (symbol_view c.in-Some.symbol) _ _ all c.in-Some.ensures.steps inv.1)
+
+pub returns-in_err-add : goal.returns-in_err-add
+returns-in_err-add g c =
+    let a = c.args.archive.now in
+    let tests = symbol_tests (is_thin a) (file_of a) c.args.member.offset in
+    let all = symbols c.args.linker c.args.member.bytes.now in
+    let inv = c.loop-symbol.invariant in
+    let some : standing (flat_map tests all) ≢ [] =
+    some_here tests (symbol_view c.in-Some.symbol) _ _ all c.in-Some.ensures.steps (option_to_list c.symbol_finding.result) c.symbol_finding.ensures inv.1 c.in_err-add.ensures.wants in
+    let p = err_from_is_err_and c.from_residual.result c.from_residual.ensures.1 in
+    adds_wants (flat_map tests all) c.args.found.now.items c.add.new.found.items c.from_residual.result p.0 p.1 some

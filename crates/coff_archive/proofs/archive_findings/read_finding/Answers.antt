@@ -2,8 +2,8 @@
 use Rattle.std.proofs.Common.{◌≡◌, ◌∙◌, Bool, true, false, List, [], ◌∷◌, ℕ, Option, Some, None, refl, sym, ap}
 use Rattle.std.specs.Prelude.{is_none, not}
 use Rattle.pe_view.specs.declared.fault.Fault.{Fault}
+use Rattle.pe_view.specs.Standing.{standing}
 use Rattle.coff_archive.specs.ArchiveFile.{file_of, is_thin}
-use Rattle.coff_archive.specs.Findings.{standing}
 use Rattle.coff_archive.specs.Front.{names_of}
 use Rattle.coff_archive.specs.MemberView.{member_view}
 use Rattle.coff_archive.specs.Names.{name_of}

@@ -3,12 +3,13 @@ use Rattle.std.proofs.lemmas.Result.{err_from_is_err_and}
 use Rattle.pe_view.specs.declared.fault.Place.TheVariants.{Rva}
 use Rattle.pe_view.specs.Faults.{test}
 use Rattle.pe_view.specs.View.{bytes_of}
+use Rattle.pe_view.specs.Standing.{standing}
+use Rattle.pe_view.specs.AllStanding.{adds_wants}
 use Rattle.pe_layout.specs.Layout.{image_of}
 use Rattle.pe_records.specs.BoundImportTests.{record_tests, records_tests}
 use Rattle.pe_records.specs.Callbacks.{callback_count}
-use Rattle.pe_records.specs.Standing.{standing}
 use Rattle.pe_records.proofs.Found.{records_more}
-use Rattle.pe_records.proofs.Wanting.{adds_wants, some_of}
+use Rattle.pe_records.proofs.Wanting.{some_of}
 use Rattle.pe_records.proofs.bound_finding.find_records.Goals as goal
 
 pub loop-index-preserved : goal.loop-index-preserved

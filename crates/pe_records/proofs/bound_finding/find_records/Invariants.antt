@@ -1,9 +1,9 @@
 use Rattle.std.proofs.Common.{◌≡◌, ◌++◌}
 use Rattle.std.specs.List.{flat_map, range_with_len}
 use Rattle.pe_view.specs.View.{bytes_of}
+use Rattle.pe_view.specs.Standing.{standing}
 use Rattle.pe_layout.specs.Layout.{image_of}
 use Rattle.pe_records.specs.BoundImportTests.{record_tests}
-use Rattle.pe_records.specs.Standing.{standing}
 use Rattle.pe_records.proofs.bound_finding.find_records.Given as goal
 
 abbrev pub invariant-loop-index : goal.invariant-loop-index

@@ -1,5 +1,5 @@
 use Rattle.std.proofs.Common.{◌≡◌, ◌≢◌, ◌++◌, [], drop}
-use Rattle.pe_records.specs.Standing.{standing, tests_at}
+use Rattle.pe_view.specs.Standing.{standing, tests_at}
 use Rattle.pe_records.proofs.finding.add.Given as goal
 
 abbrev pub invariant-loop-rule : goal.invariant-loop-rule

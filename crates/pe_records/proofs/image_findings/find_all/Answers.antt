@@ -2,15 +2,15 @@ use Rattle.std.proofs.Common.{◌≡◌, ◌≢◌, ◌++◌, [], List}
 use Rattle.std.proofs.lemmas.Result.{err_from_is_err_and}
 use Rattle.pe_view.specs.Faults.{Test}
 use Rattle.pe_view.specs.View.{bytes_of}
+use Rattle.pe_view.specs.Standing.{standing}
+use Rattle.pe_view.specs.AllStanding.{adds_after, adds_wants, some_after, some_before}
 use Rattle.pe_layout.specs.Layout.{headers_of, image_of}
 use Rattle.pe_records.specs.BoundImportTests.{bound_tests}
 use Rattle.pe_records.specs.ClrHeader.{clr_tests}
 use Rattle.pe_records.specs.Exceptions.{exception_tests}
 use Rattle.pe_records.specs.FindingTests.{debug_tests, finding_tests}
 use Rattle.pe_records.specs.LoadTests.{load_tests}
-use Rattle.pe_records.specs.Standing.{standing}
 use Rattle.pe_records.specs.TlsTests.{tls_tests}
-use Rattle.pe_records.proofs.Wanting.{adds_after, adds_wants, some_after, some_before}
 use Rattle.pe_records.proofs.image_findings.find_all.Goals as goal
 
 pub returns-in_err-find_table : goal.returns-in_err-find_table

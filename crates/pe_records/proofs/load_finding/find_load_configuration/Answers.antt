@@ -2,13 +2,13 @@ use Rattle.std.proofs.Common.{◌≡◌, ◌≢◌, ◌∙◌, ◌++◌, ℕ, Li
 use Rattle.std.proofs.lemmas.Result.{err_from_is_err_and}
 use Rattle.pe_view.specs.View.{bytes_of}
 use Rattle.pe_view.specs.declared.fault.Fault.{Fault}
+use Rattle.pe_view.specs.Standing.{Adds, standing}
+use Rattle.pe_view.specs.AllStanding.{adds_after, adds_wants, some_before}
 use Rattle.pe_head.specs.declared.directory.Directory.{Directory}
 use Rattle.pe_layout.specs.Layout.{image_of}
 use Rattle.pe_records.specs.LoadConfiguration.{size_at}
 use Rattle.pe_records.specs.LoadTests.{load_tests, load_tests_at, load_tests_of, size_tests, tables_tests}
-use Rattle.pe_records.specs.Standing.{Adds, standing}
 use Rattle.pe_records.specs.Structure.{structure_bytes}
-use Rattle.pe_records.proofs.Wanting.{adds_after, adds_wants, some_before}
 use Rattle.pe_records.proofs.load_finding.find_load_configuration.Goals as goal
 
 pub returns-in_err-find_size : goal.returns-in_err-find_size

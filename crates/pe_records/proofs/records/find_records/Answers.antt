@@ -3,12 +3,13 @@ use Rattle.std.proofs.lemmas.Result.{err_from_is_err_and}
 use Rattle.std.proofs.lemmas.Option.{same_Some}
 use Rattle.std.specs.List.{flat_map, range_with_len}
 use Rattle.pe_view.specs.View.{bytes_of, size_of}
+use Rattle.pe_view.specs.Standing.{standing}
+use Rattle.pe_view.specs.AllStanding.{adds_wants}
 use Rattle.pe_layout.specs.Layout.{image_of}
-use Rattle.pe_records.specs.Standing.{standing}
 use Rattle.pe_records.specs.TableTests.{record_tests, records_tests}
 use Rattle.pe_records.proofs.Rows.{made_at, record_fits}
 use Rattle.pe_records.proofs.Found.{records_more}
-use Rattle.pe_records.proofs.Wanting.{adds_wants, some_of}
+use Rattle.pe_records.proofs.Wanting.{some_of}
 use Rattle.pe_records.proofs.records.find_records.Goals as goal
 
 pub unwrap-record-requires : goal.unwrap-record-requires

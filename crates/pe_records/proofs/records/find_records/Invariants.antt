@@ -1,8 +1,8 @@
 use Rattle.std.proofs.Common.{◌≡◌, ◌++◌}
 use Rattle.std.specs.List.{flat_map, range_with_len}
 use Rattle.pe_view.specs.View.{bytes_of}
+use Rattle.pe_view.specs.Standing.{standing}
 use Rattle.pe_layout.specs.Layout.{image_of}
-use Rattle.pe_records.specs.Standing.{standing}
 use Rattle.pe_records.specs.TableTests.{record_tests}
 use Rattle.pe_records.proofs.records.find_records.Given as goal
 

@@ -2,13 +2,14 @@ use Rattle.std.proofs.Common.{◌≡◌, ◌≢◌, ◌∙◌, ◌+◌, ◌*◌,
 use Rattle.std.proofs.lemmas.Result.{err_from_is_err_and}
 use Rattle.pe_view.specs.declared.fault.Place.TheVariants.{Rva}
 use Rattle.pe_view.specs.Faults.{test}
+use Rattle.pe_view.specs.Standing.{standing}
+use Rattle.pe_view.specs.AllStanding.{adds_wants}
 use Rattle.pe_layout.specs.Layout.{image_of}
 use Rattle.pe_records.specs.Address.{leads_nowhere}
 use Rattle.pe_records.specs.Callbacks.{callback_count, entries_tests, entry_at, entry_tests}
 use Rattle.pe_records.specs.CallbackView.{callback_table}
-use Rattle.pe_records.specs.Standing.{standing}
 use Rattle.pe_records.proofs.Found.{records_more}
-use Rattle.pe_records.proofs.Wanting.{adds_wants, some_of}
+use Rattle.pe_records.proofs.Wanting.{some_of}
 use Rattle.pe_records.proofs.Rows.{made_at}
 use Rattle.pe_records.proofs.tls_finding.find_entries.Goals as goal
 

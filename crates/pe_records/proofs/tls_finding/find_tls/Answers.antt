@@ -2,13 +2,13 @@ use Rattle.std.proofs.Common.{◌≡◌, ◌≢◌, ◌∙◌, ◌++◌, ℕ, Li
 use Rattle.std.proofs.lemmas.Result.{err_from_is_err_and}
 use Rattle.pe_view.specs.View.{bytes_of}
 use Rattle.pe_view.specs.declared.fault.Fault.{Fault}
+use Rattle.pe_view.specs.Standing.{Adds, standing}
+use Rattle.pe_view.specs.AllStanding.{adds_after, adds_wants, some_before}
 use Rattle.pe_head.specs.declared.directory.Directory.{Directory}
 use Rattle.pe_layout.specs.Layout.{image_of}
-use Rattle.pe_records.specs.Standing.{Adds, standing}
 use Rattle.pe_records.specs.TlsFields.{structure_tests, tls_at, tls_in}
 use Rattle.pe_records.specs.TlsTests.{callbacks_tests, tls_tests, tls_tests_at}
 use Rattle.pe_records.specs.declared.tls_directory.TlsDirectory.{TlsDirectory}
-use Rattle.pe_records.proofs.Wanting.{adds_after, adds_wants, some_before}
 use Rattle.pe_records.proofs.tls_finding.find_tls.Goals as goal
 
 pub returns-in_err-find_structure : goal.returns-in_err-find_structure

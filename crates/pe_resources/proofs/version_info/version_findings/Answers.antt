@@ -2,8 +2,8 @@
 use Rattle.std.proofs.Common.{◌≡◌, ◌∙◌, ℕ, List, Some, ap, sym, subst}
 use Rattle.std.specs.Prelude.{IfOk}
 use Rattle.pe_view.specs.Faults.{Test}
+use Rattle.pe_view.specs.Standing.{standing}
 use Rattle.pe_layout.specs.Layout.{image_of}
-use Rattle.pe_records.specs.Standing.{standing}
 use Rattle.pe_version.specs.Findings.{version_tests}
 use Rattle.pe_resources.specs.Single.{version_of}
 use Rattle.pe_resources.specs.Texts.{data_of}

@@ -1,8 +1,8 @@
 -- The data lies in a run of the file, and so in the image.
 use Rattle.std.proofs.Common.{◌≡◌, ◌∙◌, ℕ, List, Some, Result, Ok, Err, Vec, ap, length, arith, rules}
 use Rattle.std.specs.Prelude.{IfOk}
+use Rattle.pe_view.specs.Standing.{standing}
 use Rattle.pe_layout.specs.Layout.{image_of, size_small}
-use Rattle.pe_records.specs.Standing.{standing}
 use Rattle.pe_resources.specs.Single.{version_of}
 use Rattle.pe_resources.specs.Texts.{data_of}
 use Rattle.pe_resources.proofs.Held.{data_ends, data_within}

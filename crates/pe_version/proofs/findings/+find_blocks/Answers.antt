@@ -3,7 +3,7 @@ use Rattle.std.proofs.Common.{◌≡◌, ◌∙◌, ◌-◌, ◌++◌, ℕ, List
 use Rattle.std.specs.Prelude.{if◌then◌else◌}
 use Rattle.pe_view.specs.View.{bytes_of, size_of}
 use Rattle.pe_view.specs.declared.fault.Fault.{Fault}
-use Rattle.pe_records.specs.Standing.{standing}
+use Rattle.pe_view.specs.Standing.{standing}
 use Rattle.pe_version.specs.Block.{has_key_end, body_of, place_of}
 use Rattle.pe_version.specs.Blocks.{block_end}
 use Rattle.pe_version.specs.Findings.{is_read, level_tests}

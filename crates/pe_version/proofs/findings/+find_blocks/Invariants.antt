@@ -1,6 +1,6 @@
 use Rattle.std.proofs.Common.{◌≡◌, ◌++◌, ◌-◌, ◌^◌}
 use Rattle.pe_view.specs.View.{bytes_of}
-use Rattle.pe_records.specs.Standing.{standing}
+use Rattle.pe_view.specs.Standing.{standing}
 use Rattle.pe_version.specs.Findings.{level_tests}
 use Rattle.pe_version.proofs.findings.+find_blocks.Given as goal
 

@@ -4,13 +4,13 @@ use Rattle.std.specs.Prelude.{◌≢◌, ◌⊎◌, [], None}
 use Rattle.pe_view.specs.View.{bytes_of}
 use Rattle.pe_view.specs.declared.fault.Fault.{Fault}
 use Rattle.pe_view.specs.declared.refusal.Refusal.TheVariants as refusals
+use Rattle.pe_view.specs.Standing.{standing}
 use Rattle.pe_head.specs.Head.{head_of}
 use Rattle.pe_head.specs.declared.headers.Headers.{Headers}
 use Rattle.pe_layout.specs.Image.{LaidOut, image_of_file}
 use Rattle.pe_layout.specs.Layout.{IsLayoutOf, headers_of, image_of}
 use Rattle.pe_layout.specs.declared.layout.Layout.{Layout}
 use Rattle.pe_records.specs.FindingTests.{finding_tests}
-use Rattle.pe_records.specs.Standing.{standing}
 use Rattle.pe_records_c.specs.Faults.{fault_record}
 use Rattle.pe_records_c.specs.Rows.{TellsTable}
 use Rattle.pe_records_c.proofs.Telling.{table_accepted, table_refused}
