@@ -37,6 +37,7 @@ OPTIONS = {
     "raw": ("resource_words.rt", r"const RAW: &str =\s+"),
     "extract": ("archive_words.rt", r"const EXTRACT: &str =\s+"),
     "index": ("archive_words.rt", r"const INDEX: &str =\s+"),
+    "create": ("archive_words.rt", r"const CREATE: &str =\s+"),
     "check-sum": ("rebase_words.rt", r"const CHECK_SUM: &str =\s+"),
     "known": ("map_words.rt", r"const KNOWN: &str =\s+"),
     "unbound": ("map_words.rt", r"const UNBOUND: &str =\s+"),

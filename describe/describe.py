@@ -237,9 +237,9 @@ def comparisons(description, faults):
     yield rattle_sources.prototype_faults(description, HEADER, read(HEADER))
     yield rattle_sources.status_faults(description, MAN, read(MAN))
     yield rattle_sources.value_faults(description, sources("pe_records_c", "pe_tables_c", "pe_trust_c", "pe_resources_c", "coff_archive_c", "coff_read"))
-    yield rattle_sources.record_faults(description, sources("pe_records_c", "pe_tables_c", "pe_trust_c", "pe_resources_c", "coff_archive_c", "pe_handle", "pe_opened"))
+    yield rattle_sources.record_faults(description, sources("pe_records_c", "pe_tables_c", "pe_trust_c", "pe_resources_c", "coff_archive_c", "coff_library", "pe_handle", "pe_opened"))
     yield rattle_sources.call_faults(description, sources("petool_c"))
-    yield rattle_sources.key_faults(description, sources("pe_json"))
+    yield rattle_sources.key_faults(description, sources("pe_json", "coff_archive_json"))
     yield rattle_sources.definition_faults(description, HEAD, read(HEAD))
 
 

@@ -5,11 +5,14 @@ archives.py PETOOL PATH...
 PETOOL is the program. A PATH is an archive, or a folder, of which all files are used that begin like one. What petool prints, and
 its status, are compared with a dump that is made here by the rules of docs/FORMAT.md only. The names of the members are compared with
 those of `ar t` and `llvm-ar t`, and the import objects with those of `llvm-readobj`, for each of these that is there; an archive that
-one of them does not list is left out of its count. Of each archive the first member, the last and the one between them are written
-with `--extract`, and compared with the archive's bytes and with `ar p`. Differences are printed one by one; the last line has the
-counts.
+one of them does not list is left out of its count. The symbols that the last line of `petool json` has of the first linker member, each
+with its member, are compared with those of `nm -s`, and those of the second one, or else of the first, with those of `llvm-nm
+--print-armap`. Of each archive the first member, the last and the one
+between them are written with `--extract`, and compared with the archive's bytes and with `ar p`. Differences are printed one by one;
+the last line has the counts.
 """
 
+import json
 import os
 import re
 import shutil
@@ -160,6 +163,36 @@ def imports_by(program, path):
     return None if text is None else text.count(b"Format: COFF-import-file")
 
 
+def symbols_told(petool, path):
+    """The symbols of each linker member in the lines of JSON, each with the name of its member; None for one that is not there."""
+    with subprocess.Popen([petool, "json", path], stdout=subprocess.PIPE) as run:
+        names, last = {}, b""
+        for last in run.stdout:
+            found = re.match(rb'.*?"member":("(?:[^"\\\\]|\\\\.)*"),"offset":(\d+)', last[:70000])
+            if found:
+                names[int(found[2])] = json.loads(found[1])
+    tables = [json.loads(last).get(f"{which}_linker_member") for which in ("first", "second")]
+    return [None if table is None else [(it.get("name", ""), names.get(it.get("offset"))) for it in table] for table in tables]
+
+
+def slashed(symbols):
+    """Symbols with members as binutils name them, which have a slash for a backslash."""
+    return symbols and [(name, member and member.replace("\\", "/")) for name, member in symbols]
+
+
+def symbols_by(words, path):
+    """The symbols of an archive's index with their members, as another program lists them."""
+    text = output(*words, path)
+    if text is None:
+        return None
+    lines = text.decode("latin-1").split("\n")
+    heads = [at for at, line in enumerate(lines) if line in ("Archive index:", "Archive map")]
+    if not heads:
+        return None
+    rows = lines[heads[0] + 1 : lines.index("", heads[0])]
+    return [tuple(row.split(" in ", 1)) for row in rows]
+
+
 def different(petool, path, thin, members):
     """Some members that petool does not write as they stand in an archive, or that `ar` writes otherwise; and how many were tried."""
     wrong, tried = [], 0
@@ -190,9 +223,11 @@ def archives(paths):
 
 def main():
     petool, *paths = sys.argv[1:]
-    counts = dict.fromkeys(("archives", "members", "imports", "extracted", "different"), 0)
+    counts = dict.fromkeys(("archives", "members", "imports", "symbols", "extracted", "different"), 0)
     peers = {name: shutil.which(name) for name in ("ar", "llvm-ar", "llvm-readobj")}
     agreed = {name: 0 for name, program in peers.items() if program}
+    armaps = {words[0]: words for words in (("nm", "-s"), ("llvm-nm", "--print-armap")) if shutil.which(words[0])}
+    agreed.update((name, 0) for name in armaps)
     for path in archives(paths):
         with open(path, "rb") as it:
             file = it.read()
@@ -210,11 +245,20 @@ def main():
         counts["different"] += len(wrong)
         for name in wrong:
             print(f"{path}: {name!r} is written otherwise")
-        for peer in agreed:
+        first, second = symbols_told(petool, path)
+        counts["symbols"] += len(first or []) + len(second or [])
+        for peer, words in armaps.items():
+            found, symbols = symbols_by(words, path), slashed(first) if peer == "nm" or second is None else second
+            if found is not None and symbols is not None:
+                agreed[peer] += 1
+                if found != symbols:
+                    counts["different"] += 1
+                    print(f"{path}: {peer} finds other symbols")
+        for peer in agreed.keys() - armaps.keys():
             if peer == "llvm-readobj":
                 found, told = imports_by(peer, path), imports
             else:
-                found, told = listed_by(peer, path), members_of(names, thin)
+                found, told = listed_by(peer, path), members_of([name.replace(b"\\", b"/") if peer == "ar" else name for name in names], thin)
             if found is not None:
                 agreed[peer] += 1
                 if (found if peer == "llvm-readobj" else members_of(found, thin)) != told:

@@ -99,7 +99,7 @@ enum {
 
 /* from describe/records.txt: fault */
 typedef struct petool_fault {
-    uint16_t number; /* as in docs/FAULTS.md: of a fault from 1 to 85, of a finding from 101 on */
+    uint16_t number; /* as in docs/FAULTS.md: of a fault from 1 to 93, of a finding from 101 on */
     uint16_t place;  /* what `at` counts: a PETOOL_PLACE */
     uint32_t image;  /* the index of the entry in a set; otherwise 0 */
     uint64_t at;
@@ -1076,6 +1076,19 @@ PETOOL_WARN_UNUSED uint32_t petool_archive_import(const uint8_t *member, size_t 
 PETOOL_WARN_UNUSED uint32_t petool_archive_findings(const uint8_t *file, size_t len, petool_fault *rows, size_t room, size_t *count,
                                                     petool_fault *fault);
 
+/* from describe/records.txt: new_member */
+typedef struct petool_new_member {
+    petool_text name;  /* the name, which may have `/` in it, but not at its end */
+    petool_text bytes; /* what it holds: an object, a short import object, or anything else */
+} petool_new_member;
+/* end of describe/records.txt */
+
+/* The archive of members, with both linker members, written to a buffer. OK; SMALL if it has more bytes than there is room for, of
+ * which the buffer then has the first; FAULT, with 91 to 93; or MEMORY, but not if a member has one of faults 91 and 92. *count is how
+ * many bytes the archive has. The texts of a member are those of a file or of your own; PETOOL_NONE is one of no bytes. */
+PETOOL_WARN_UNUSED uint32_t petool_archive_write(const petool_new_member *members, size_t entries, uint8_t *buffer, size_t room,
+                                                 size_t *count, petool_fault *fault);
+
 /* ---- NULL with length 0 ---- */
 
 /* The exports of the library take no NULL, not even with length 0: what they are proved for has no such pointer. So these functions
@@ -1765,6 +1778,19 @@ PETOOL_WARN_UNUSED static inline uint32_t petool_nullable_archive_findings(const
 }
 #define petool_archive_findings petool_nullable_archive_findings
 
+PETOOL_WARN_UNUSED static inline uint32_t petool_nullable_archive_write(const petool_new_member *members, size_t entries,
+                                                                        uint8_t *buffer, size_t room, size_t *count,
+                                                                        petool_fault *fault)
+{
+    if (PETOOL_IS_LOST(members, entries))
+        return PETOOL_ARGUMENT;
+    if (PETOOL_IS_LOST(buffer, room))
+        return PETOOL_ARGUMENT;
+    return petool_archive_write((const petool_new_member *)petool_some(members), entries, (uint8_t *)petool_room(buffer), room,
+                                count, fault);
+}
+#define petool_archive_write petool_nullable_archive_write
+
 static inline int petool_nullable_fault_line(const petool_fault *fault, char *line, size_t room)
 {
     if (PETOOL_IS_LOST(line, room))
@@ -2067,6 +2093,9 @@ PETOOL_AT(petool_archive_member, has_name, 116);
 PETOOL_SIZE(petool_archive_symbol, 32);
 PETOOL_AT(petool_archive_symbol, name, 0);
 PETOOL_AT(petool_archive_symbol, member, 16);
+PETOOL_SIZE(petool_new_member, 32);
+PETOOL_AT(petool_new_member, name, 0);
+PETOOL_AT(petool_new_member, bytes, 16);
 PETOOL_SIZE(petool_import_object, 64);
 PETOOL_AT(petool_import_object, symbol, 0);
 PETOOL_AT(petool_import_object, module, 16);

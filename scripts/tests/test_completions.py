@@ -110,7 +110,7 @@ class OtherShells(unittest.TestCase):
         self.assertIn("'1:HEX:' '2:IN:_files' '3:OUT:_files' ;;", zsh)
         self.assertIn("'1:FILE:_files' '*:ADDRESS:' ;;", zsh)
         self.assertIn("'*:HEX=FILE:{compset -P \"*=\" && _files}' ;;", zsh)
-        self.assertIn("'dump 0' 'at 0' 'resource 0' 'object 0' 'archive 0' 'json *' 'sum *' 'rebase 1' 'rebase 2'\n", fish)
+        self.assertIn("'dump 0' 'at 0' 'resource 0' 'object 0' 'archive *' 'json *' 'sum *' 'rebase 1' 'rebase 2'\n", fish)
         self.assertIn("__fish_seen_subcommand_from map' -l window -x ", fish)
         self.assertIn(":WHEN:(auto always never)'", zsh)
         self.assertIn("__fish_seen_subcommand_from show' -l color -x -a 'auto always never' ", fish)

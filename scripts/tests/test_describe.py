@@ -8,7 +8,7 @@ import tempfile
 import unittest
 
 TOP = pathlib.Path(__file__).resolve().parents[2]
-CRATES = ("pe_records_c", "pe_tables_c", "pe_trust_c", "pe_resources_c", "coff_archive_c", "pe_handle", "pe_opened", "petool_c", "pe_json")
+CRATES = ("pe_records_c", "pe_tables_c", "pe_trust_c", "pe_resources_c", "coff_archive_c", "pe_handle", "pe_opened", "petool_c", "pe_json", "coff_archive_json", "coff_library")
 #: The crates that test faults or have a table of them.
 FAULT_CRATES = (
     "pe_text",
@@ -270,7 +270,7 @@ FAULTS_WRITTEN = [
         '    (3, "MS-DOS header", "the file does not begin with MZ"),\n    (\n        4,\n        "offset of the signature",\n        "the signature and the COFF file header after it extend past the end of the file",\n    ),\n',
         '    (\n        4,\n        "offset of the signature",\n        "the signature and the COFF file header after it extend past the end of the file",\n    ),\n    (3, "MS-DOS header", "the file does not begin with MZ"),\n',
     ),
-    (RULES, "; 69] = [", "; 68] = ["),
+    (RULES, "; 72] = [", "; 71] = ["),
     (RULES, "static FINDING_RULES", "static FINDINGS"),
     (RULES, "static RULES", "static WORDS"),
     (EXPLAINED, "an MS-DOS, NE, LE or LX program", "an MS-DOS program"),

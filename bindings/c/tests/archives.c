@@ -329,6 +329,60 @@ static void check_hostile(void)
     CHECK(wrong == 0);
 }
 
+static petool_new_member new_member(const char *name, const void *at, size_t len)
+{
+    petool_new_member member = {PETOOL_NONE, PETOOL_NONE};
+    member.name.at = (const uint8_t *)name;
+    member.name.len = strlen(name);
+    member.bytes.at = (const uint8_t *)at;
+    member.bytes.len = len;
+    return member;
+}
+
+/* A member as it is written, in which the numbers of the header but its size are 0 and 644. */
+static void put_written(const char *name, const void *at, size_t len)
+{
+    char size[24];
+    header fields = {name, "0", "0", "0", "644", size};
+    snprintf(size, sizeof size, "%zu", len);
+    put_header(fields);
+    put(at, len);
+    put("\n", len % 2);
+}
+
+/* Two members, of which the first has two symbols; its header is at 180, and that of the second at 268. */
+static void check_write(void)
+{
+    static const uint8_t first[] = {0, 0, 0, 2, 0, 0, 0, 180, 0, 0, 0, 180, '_', '_', 'i', 'm', 'p', '_', 'f', 0, 'f', 0};
+    static const uint8_t second[] = {2, 0, 0, 0, 180, 0, 0, 0, 12, 1, 0, 0, 2, 0, 0, 0, 1, 0, 1, 0, '_', '_', 'i', 'm', 'p', '_', 'f', 0, 'f', 0};
+    petool_new_member members[2];
+    uint8_t buffer[400];
+    petool_fault fault = {0, 0, 0, 0};
+    size_t count = 7;
+    members[0] = new_member("k.dll", import_bytes, sizeof import_bytes);
+    members[1] = new_member("a.txt", "odd", 3);
+    begin("!<arch>\n");
+    put_written("/", first, sizeof first);
+    put_written("/", second, sizeof second);
+    put_written("k.dll/", import_bytes, sizeof import_bytes);
+    put_written("a.txt/", "odd", 3);
+    memset(buffer, 0x55, sizeof buffer);
+    CHECK(petool_archive_write(members, 2, buffer, sizeof buffer, &count, &fault) == PETOOL_OK && count == 332 && end == 332);
+    CHECK(memcmp(buffer, made, 332) == 0 && buffer[332] == 0x55 && fault.number == 0);
+    memset(buffer, 0x55, sizeof buffer);
+    CHECK(petool_archive_write(members, 2, buffer, 331, &count, &fault) == PETOOL_SMALL && count == 332);
+    CHECK(memcmp(buffer, made, 331) == 0 && buffer[331] == 0x55);
+    CHECK(petool_archive_write(members, 2, buffer, 332, &count, &fault) == PETOOL_OK && memcmp(buffer, made, 332) == 0);
+    CHECK(petool_archive_write(members, 2, NULL, 0, &count, &fault) == PETOOL_SMALL && count == 332);
+    CHECK(petool_archive_write(NULL, 0, NULL, 0, &count, &fault) == PETOOL_SMALL && count == 8 + 64 + 68);
+
+    members[1].name.len = 0;
+    count = 7;
+    memset(buffer, 0x55, sizeof buffer);
+    CHECK(petool_archive_write(members, 2, buffer, sizeof buffer, &count, &fault) == PETOOL_FAULT && count == 7 && buffer[0] == 0x55);
+    CHECK(fault.number == 92 && fault.place == PETOOL_PLACE_ITEM && fault.at == 1 && fault.image == 0);
+}
+
 int main(void)
 {
     check_judging();
@@ -339,5 +393,6 @@ int main(void)
     check_import();
     check_findings();
     check_hostile();
+    check_write();
     return told();
 }

@@ -148,6 +148,24 @@ static uint32_t find_names(void)
     return petool_archive_findings((const uint8_t *)NO_NAMES, sizeof NO_NAMES - 1, rows, 2, &count, &fault);
 }
 
+/* An archive of the short import object of "f" in "k.dll", and of no bytes. */
+static uint32_t write_members(void)
+{
+    static const uint8_t import[] = {0, 0, 0xff, 0xff, 0, 0, 0x64, 0x86, 0, 0, 0, 0, 8, 0, 0, 0, 0, 0, 4, 0, 'f', 0, 'k', '.', 'd', 'l', 'l', 0};
+    petool_new_member members[2] = {{PETOOL_NONE, PETOOL_NONE}, {PETOOL_NONE, PETOOL_NONE}};
+    uint8_t buffer[512];
+    uint32_t status;
+    members[0].name.at = members[1].name.at = (const uint8_t *)"a name of more than fifteen letters";
+    members[0].name.len = 35;
+    members[0].bytes.at = import;
+    members[0].bytes.len = sizeof import;
+    members[1].name.len = 1;
+    memset(buffer, 0x55, sizeof buffer);
+    status = petool_archive_write(members, 2, buffer, sizeof buffer, &count, &fault);
+    CHECK(status == PETOOL_OK ? memcmp(buffer, "!<arch>\n", 8) == 0 && count < sizeof buffer : buffer[0] == 0x55);
+    return status;
+}
+
 static uint32_t find_resources(void)
 {
     petool_fault row = {0, 0, 0, 0};
@@ -371,6 +389,7 @@ int main(int argc, char **argv)
     refuse_each("petool_resources", read_resources, 0);
     refuse_each("petool_archive_members", read_members, 0);
     refuse_each("petool_archive_findings", find_names, 0);
+    refuse_each("petool_archive_write", write_members, 0);
     refuse_each("petool_image_open", open_file, 0);
     refuse_each("petool_image_open over an open image", open_over, 0);
     refuse_each("petool_image_share", share_image, 0);

@@ -33,7 +33,7 @@ Data is any object with the buffer protocol: bytes, bytearray, memoryview, mmap.
 call runs. Calls do not hold the interpreter's lock. Make no call in a forked child of a process with threads.
 """
 
-from ._archive import Archive, ArchiveMember, ArchiveSymbol, ImportObject, import_object
+from ._archive import Archive, ArchiveMember, ArchiveSymbol, ImportObject, import_object, write_archive
 from ._bytes import Buffer
 from ._fault import FormatFault, Place
 from ._image import (
@@ -143,4 +143,5 @@ __all__ = [
     "rebase",
     "unbound",
     "version",
+    "write_archive",
 ]

@@ -1,12 +1,12 @@
-"""Archives of COFF objects: their members, the symbols of their linker members, and short import objects."""
+"""Archives of COFF objects: their members, the symbols of their linker members, short import objects, and archives to be written."""
 
 from __future__ import annotations
 
 import ctypes
-from typing import Iterator, NamedTuple, Optional, Tuple
+from typing import Iterable, Iterator, NamedTuple, Optional, Tuple, Union
 
 from . import _library, _records, _tables
-from ._bytes import LAYOUTS, Buffer, FileBytes, RowLayout, read_rows
+from ._bytes import LAYOUTS, Buffer, FileBytes, RowLayout, address_of, read_rows
 from ._fault import ask
 from ._file import OfFile
 from ._library import library
@@ -200,3 +200,36 @@ class Archive(OfFile):
 
     def __repr__(self) -> str:
         return f"<Archive: {len(self)} members>" if self._file.is_held else "<Archive: closed>"
+
+
+#: How many bytes an archive is guessed to have for each member, with its symbols.
+_MEMBER_GUESS = 1024
+
+
+def write_archive(members: Iterable[Tuple[Union[str, bytes], Buffer]]) -> bytes:
+    """The archive of members, each a name and what it holds: an object, a short import object, or anything else. It has both linker
+    members, which name the public symbols of the objects. FormatFault of 91 to 93, at the index of a member."""
+    names, contents = [], []
+    try:
+        for name, content in members:
+            names.append(FileBytes(name.encode() if isinstance(name, str) else name))
+            contents.append(FileBytes(content))
+        rows = [_records.NewMember(_text_of(name), _text_of(content)) for name, content in zip(names, contents)]
+        entries = (_records.NewMember * max(len(rows), 1))(*rows)
+        return _written(entries, len(rows), sum(content.length + _MEMBER_GUESS for content in contents))
+    finally:
+        for file in names + contents:
+            file.close()
+
+
+def _text_of(file: FileBytes) -> _records.Text:
+    return _records.Text(file.address, file.length)
+
+
+def _written(entries: ctypes.Array[_records.NewMember], count: int, room: int) -> bytes:
+    """The archive of members: once with the guessed room, and once more with the room that it needs."""
+    length = ctypes.c_size_t(room)
+    while True:
+        view = memoryview(bytearray(max(length.value, 1)))
+        if ask(library.petool_archive_write, entries, count, address_of(view), len(view), ctypes.byref(length)) == _library.OK:
+            return bytes(view[: length.value])

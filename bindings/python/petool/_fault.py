@@ -70,7 +70,7 @@ class FormatFault(ValueError):
     ``str()`` is the fault in the words of the program ``petool``.
     """
 
-    number: int  #: as in docs/FAULTS.md, from 1 to 85
+    number: int  #: as in docs/FAULTS.md, from 1 to 93
     image: int  #: the index of the entry in a set; otherwise 0
     place: Place  #: what ``at`` counts
     at: int

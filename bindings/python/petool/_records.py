@@ -183,6 +183,10 @@ class SectionHeader(Structure):
     ]
 
 
+class NewMember(Structure):
+    _fields_ = [("name", Text), ("bytes", Text)]
+
+
 class ImportObject(Structure):
     _fields_ = [
         ("symbol", Text),
@@ -350,6 +354,10 @@ CALLS: Dict[str, Tuple[Any, List[Any]]] = {
     "petool_archive_findings": (
         c_uint32,
         [c_void_p, c_size_t, POINTER(Fault), c_size_t, POINTER(c_size_t), POINTER(Fault)],
+    ),
+    "petool_archive_write": (
+        c_uint32,
+        [POINTER(NewMember), c_size_t, c_void_p, c_size_t, POINTER(c_size_t), POINTER(Fault)],
     ),
     "petool_fault_words": (c_uint32, [c_uint16, POINTER(Text), POINTER(Text)]),
     "petool_fault_line": (c_int, [POINTER(Fault), c_void_p, c_size_t]),

@@ -178,6 +178,40 @@ class ArchiveCalls(unittest.TestCase):
             members = made.members
             self.assertEqual([len(members[k].name) for k in (1, 2, 300, 10_000)], [8_000_000, 7_999_999, 7_999_701, 7_990_001])
 
+    def test_archives_are_written(self):
+        long = "a_name_of_more_than_fifteen_letters.o"
+        members = [("k.dll", import_object()), (long, bytearray(O1)), (b"dir/odd", memoryview(b"odd")), ("empty", b"")]
+        with petool.Archive(petool.write_archive(members)) as made:
+            self.assertEqual([(it.name, it.bytes) for it in made if not it.is_own], [(b"k.dll", import_object()), (long.encode(), O1), (b"dir/odd", b"odd"), (b"empty", b"")])
+            self.assertEqual([it.kind for it in made if it.is_own], ["linker member", "linker member", "long names"])
+            self.assertEqual({it.date for it in made} | {it.user for it in made} | {it.group for it in made}, {0})
+            with petool.Object(O1) as inside:
+                public = [it.name for it in inside.symbols if it.storage_class == 2 and (it.section_number or it.value)]
+            offsets = {it.name: it.offset for it in made}
+            named = [(b"__imp_f", offsets[b"k.dll"]), (b"f", offsets[b"k.dll"]), *((name, offsets[long.encode()]) for name in public)]
+            self.assertEqual([tuple(it) for it in made.linker_symbols(1)], named)
+            self.assertEqual([tuple(it) for it in made.linker_symbols(2)], sorted(named))
+            self.assertEqual(made.findings, ())
+
+    def test_an_archive_of_nothing_and_one_that_is_larger_than_guessed(self):
+        self.assertEqual(len(petool.write_archive([])), 8 + 64 + 68)
+        name = b"n" * 5000
+        made = petool.write_archive((name[k:], b"") for k in range(3))
+        with petool.Archive(made) as file:
+            self.assertEqual([it.name for it in file if not it.is_own], [name, name[1:], name[2:]])
+
+    def test_members_that_cannot_be_written(self):
+        for name in ("", "a/", "a\nb", b"a\0"):
+            with self.subTest(name), self.assertRaises(petool.FormatFault) as caught:
+                petool.write_archive([("good", b""), (name, b""), (name, b"")])
+            fault = caught.exception
+            self.assertEqual((fault.number, fault.place, fault.at), (92, petool.Place.ITEM, 1))
+        with self.assertRaises(petool.FormatFault) as caught:
+            petool.write_archive([("a", b"")] * 65536)
+        self.assertEqual((caught.exception.number, caught.exception.at), (91, 65535))
+        with self.assertRaises(TypeError):
+            petool.write_archive([("a", "text")])
+
     @unittest.skipUnless(shutil.which("ar"), "left out without ar")
     def test_an_archive_of_ar(self):
         names = ["a.o", "a name with blanks.o", "a_name_of_more_than_fifteen_letters.o"]

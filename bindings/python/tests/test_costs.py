@@ -4,12 +4,13 @@ import os
 import pathlib
 import re
 import shutil
+import struct
 import subprocess
 import tempfile
 import unittest
 
 from . import crafted
-from .test_archives import archive, member
+from .test_archives import archive, header, member
 
 PROGRAM = os.environ.get("PETOOL_PROGRAM")
 BENCHMARK = os.environ.get("PETOOL_BENCHMARK")
@@ -115,3 +116,54 @@ class Costs(unittest.TestCase):
                 return counted(PROGRAM, "archive", "--extract", "a", file)
 
             self.grows(2, count)
+
+    @unittest.skipUnless(PROGRAM, "left out without program: PETOOL_PROGRAM names none")
+    def test_archives_that_were_made_to_be_dear(self):
+        def shared(size):
+            return archive(member("//", b"a" * size + b"/\n"), *(header("/0", 0) for _ in range(size // 60)))
+
+        def endless(size):
+            return archive(member("//", b"a" * size), *(header(f"/{at}", 0) for at in range(size // 60)))
+
+        def counted_too_high(size):
+            return archive(member("/", b"\xff" * 4 + bytes(size)))
+
+        def nested(size):
+            return archive(*(member("a.a/", archive(member("b.a/"))) for _ in range(size // 128)))
+
+        def empty(size):
+            return archive(*(header("a/", 0) for _ in range(size // 60)))
+
+        def no_number(size):
+            return archive(*(header("a/", 0) for _ in range(size // 60)), header("a/", "9" * 10))
+
+        with tempfile.TemporaryDirectory() as folder:
+            file = pathlib.Path(folder, "a.a")
+            for kind, status, cut in ((shared, 1, 5), (endless, 1, 1), (counted_too_high, 0, 0), (nested, 1, 1), (empty, 1, 1), (no_number, 1, 1)):
+                for words in (["archive"], ["show", "--symbols"], ["json"]):
+                    limit = ["--most", "64K"] if kind is shared else []
+
+                    def count(size):
+                        file.write_bytes(kind(size))
+                        return counted(PROGRAM, *words, *limit, file)
+
+                    with self.subTest(kind.__name__, words=words):
+                        self.grows(cut if limit else status, count)
+
+    @unittest.skipUnless(PROGRAM, "left out without program: PETOOL_PROGRAM names none")
+    def test_symbols_that_name_members_in_any_order(self):
+        with tempfile.TemporaryDirectory() as folder:
+            for words in (["show", "--symbols"], ["json"]):
+
+                def count(size):
+                    members = size // 160
+                    start = 8 + 60 + 4 + 6 * members
+                    offsets = [start + 60 * (at * 7919 % members) for at in range(members)]
+                    names = struct.pack(f">I{members}I", members, *offsets) + b"f\0" * members
+                    file = pathlib.Path(folder, "symbols.a")
+                    file.write_bytes(archive(member("/", names), *(member("a/") for _ in range(members))))
+                    return counted(PROGRAM, *words, file)
+
+                with self.subTest(words):
+                    self.grows(1, count)
+

@@ -4,6 +4,7 @@ pub use Rattle.coff_read.specs.Reading
 pub use Rattle.pe_text.specs.Engine
 pub mod ArchiveLines
 pub mod MemberFile
+pub mod NewArchive
 pub mod ObjectLines
 pub mod ObjectPlaces
 pub mod ObjectReport

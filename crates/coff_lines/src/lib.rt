@@ -11,6 +11,7 @@
 //!
 //! [`object_text`] writes the dump for a file that was read. [`dump_archive`] and [`archive_text`] write the dump of an archive of such
 //! objects: a line for each member, and after it what these write of an object. [`extract_member`] gives what one of them holds.
+//! [`create_archive`] writes a new archive.
 #![tactic(auto)]
 
 mod archive_engine;
@@ -18,8 +19,10 @@ mod archive_lines;
 mod engine;
 pub mod laws;
 mod member_file;
+mod new_archive;
 mod object_lines;
 
 pub use archive_engine::{archive_text, dump_archive};
 pub use engine::{dump_object, object_text};
 pub use member_file::{MemberFile, extract_member};
+pub use new_archive::create_archive;

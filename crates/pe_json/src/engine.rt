@@ -230,8 +230,9 @@ fn write_line<A: Allocator + Copy, W: Sink>(
     }
 }
 
-/// Checks a file, and writes its line to a sink.
-fn print_line<A: Allocator + Copy, W: Sink>(
+/// The line of [`json`] for a file as a view has it. On the error `Write` the beginning of the line was written, on `Memory` nothing;
+/// `Read` never comes, and `Memory` not if the view has no byte. Condition: the writer has counted fewer than 2^64 - 1 failures so far.
+pub fn print_line<A: Allocator + Copy, W: Sink>(
     alloc: A,
     writer: &mut W,
     name: &[u8],

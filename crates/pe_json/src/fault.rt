@@ -179,8 +179,8 @@ pub(crate) fn write_object<W: Sink>(text: &mut TextWriter<W>, fault: &Fault, det
     text.text(b"}");
 }
 
-/// Adds the member of a refused file's fault.
-pub(crate) fn write_fault<W: Sink>(text: &mut TextWriter<W>, fault: &Fault, detail: Option<Detail>)
+/// Adds the member of a refused file's fault after others, with the numbers that its rule compares.
+pub fn write_fault<W: Sink>(text: &mut TextWriter<W>, fault: &Fault, detail: Option<Detail>)
     requires { IsReady W.failures text.old }
     ensures { Adds W.taken W.failures text.old text.new (more (fault_members fault.now detail)) }
 {

@@ -16,6 +16,8 @@
 //! failed write no further row is made. All memory is taken before its first byte, so after want of memory nothing of it was
 //! written. Of a refused image the line has the fault, the headers and sections if the headers have no fault, and the tables that
 //! [`pe_reach::read_whole_tables`] reads if the image is laid out.
+//!
+//! [`write_object_members`], [`write_fault`] and [`write_name`] with its sisters add parts of a line to the line of another crate.
 #![tactic(auto)]
 
 mod auxiliary;
@@ -56,5 +58,8 @@ mod utf16;
 mod version;
 
 pub use beyond::Beyond;
-pub use engine::{json, json_sized};
+pub use engine::{json, json_sized, print_line};
+pub use fault::write_fault;
+pub use object::write_object_members;
 pub use parts::json_parts;
+pub use string::{write_name, write_number, write_quoted, write_text_if};

@@ -25,8 +25,8 @@ fn write_header<W: Sink>(text: &mut TextWriter<W>, header: &FileHeader)
     text.text(b"}");
 }
 
-/// Adds the members of an object: its header, sections and symbols.
-fn write_members<W: Sink>(text: &mut TextWriter<W>, object: &ObjectFile)
+/// Adds the members of an object after others: its format, its header, its sections and its symbols.
+pub fn write_object_members<W: Sink>(text: &mut TextWriter<W>, object: &ObjectFile)
     requires { IsReady W.failures text.old }
     ensures { Adds W.taken W.failures text.old text.new (more (object_members (file_of object.now))) }
 {
@@ -44,7 +44,7 @@ pub(crate) fn write_object<W: Sink>(text: &mut TextWriter<W>, name: &[u8], objec
     ensures { Adds W.taken W.failures text.old text.new (object_line name.now (file_of object.now)) }
 {
     begin(text, name, true);
-    write_members(text, object);
+    write_object_members(text, object);
     text.text(b"}");
     text.text(b"\n");
 }

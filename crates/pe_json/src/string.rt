@@ -119,7 +119,7 @@ pub(crate) fn write_digits<W: Sink>(text: &mut TextWriter<W>, bytes: &[u8])
 
 /// Adds a name in quotes.
 #[tactic(auto, unfolding(json::specs::Print::quoted))]
-pub(crate) fn write_quoted<W: Sink>(text: &mut TextWriter<W>, name: &[u8])
+pub fn write_quoted<W: Sink>(text: &mut TextWriter<W>, name: &[u8])
     requires { IsReady W.failures text.old }
     ensures { Adds W.taken W.failures text.old text.new (quoted name.now) }
 {
@@ -148,7 +148,7 @@ fn write_whole_name<W: Sink>(text: &mut TextWriter<W>, key: &[u8], key_hex: &[u8
 
 /// Adds a name after the first key if it is UTF-8, and else its hexadecimal digits after the second. After a failed write the name
 /// is not read: names may be long, and many.
-pub(crate) fn write_name<W: Sink>(text: &mut TextWriter<W>, key: &[u8], key_hex: &[u8], name: &[u8])
+pub fn write_name<W: Sink>(text: &mut TextWriter<W>, key: &[u8], key_hex: &[u8], name: &[u8])
     requires { IsReady W.failures text.old }
     ensures { Adds W.taken W.failures text.old text.new (name_value (is_utf8 name.now) key.now key_hex.now name.now) }
 {
@@ -160,7 +160,7 @@ pub(crate) fn write_name<W: Sink>(text: &mut TextWriter<W>, key: &[u8], key_hex:
 
 /// Adds a number after its key.
 #[inline]
-pub(crate) fn write_number<W: Sink>(text: &mut TextWriter<W>, key: &[u8], number: u64)
+pub fn write_number<W: Sink>(text: &mut TextWriter<W>, key: &[u8], number: u64)
     requires { IsReady W.failures text.old }
     ensures { Adds W.taken W.failures text.old text.new (key.now ++ decimal number) }
 {
@@ -180,7 +180,7 @@ pub(crate) fn write_wide<W: Sink>(text: &mut TextWriter<W>, key: &[u8], number: 
 }
 
 /// Adds a fixed string after its key, if there is one.
-pub(crate) fn write_text_if<W: Sink>(text: &mut TextWriter<W>, key: &[u8], name: Option<&str>)
+pub fn write_text_if<W: Sink>(text: &mut TextWriter<W>, key: &[u8], name: Option<&str>)
     requires { IsReady W.failures text.old }
     ensures { Adds W.taken W.failures text.old text.new (value_if key.now (option_map (λ name. name.now) name.entry)) }
 {

@@ -9,7 +9,7 @@ use std::io;
 type Explained = (u16, Option<&'static str>, &'static str);
 
 /// All faults, by number.
-static EXPLAINED: [Explained; 69] = [
+static EXPLAINED: [Explained; 72] = [
     (
         1,
         Some("No RVA and no file offset reaches further."),
@@ -316,6 +316,21 @@ static EXPLAINED: [Explained; 69] = [
             "Optional bytes, sections, symbols or relocations do not fit their fields, or the file would have fault 62.",
         ),
         "a caller of write_object",
+    ),
+    (
+        91,
+        Some("The second linker member tells a symbol's member by an index of 16 bits."),
+        "a caller of write_archive",
+    ),
+    (
+        92,
+        Some("It would be read back as another name."),
+        "a caller of write_archive",
+    ),
+    (
+        93,
+        Some("The linker members tell where members are in 32 bits."),
+        "a caller of write_archive",
     ),
 ];
 

@@ -9,6 +9,7 @@
 
 mod at_job;
 mod command_line;
+mod creation;
 mod draft;
 mod explain;
 mod extraction;
@@ -19,6 +20,7 @@ mod import_fault;
 mod input;
 mod map_job;
 mod messages;
+mod new_file;
 mod opening;
 mod output;
 mod place;

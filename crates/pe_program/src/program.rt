@@ -2,6 +2,7 @@
 
 use crate::at_job::run_at;
 use crate::command_line::{refuse_command_line, refuse_words, words_of};
+use crate::creation::run_creation;
 use crate::explain::run_explain;
 use crate::extraction::{Part, run_extraction};
 use crate::file_job::{run_file, run_files};
@@ -138,6 +139,7 @@ pub fn run<R: Files + Input + Env + Print + Eprint + AllocGlobal>(rt: &R, is_ter
                 index,
             },
         ),
+        Ok(Job::ArchiveCreate { target, files }) => run_creation(rt, target.as_str(), &files),
         Ok(
             Job::Map {
                 policy,

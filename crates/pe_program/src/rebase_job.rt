@@ -4,22 +4,20 @@ ghost use Rattle.std.specs.Prelude.{◌-◌, ◌^◌, ◌<◌};
 
 use crate::file_job::tell;
 use crate::input::{InputFile, name_of, open_file};
-use crate::messages::{STANDARD_OUTPUT, refuse_memory, refuse_path, tell_failure};
-use crate::statuses::{DEVICE_FAILED, DONE, OUT_OF_MEMORY};
+use crate::messages::{refuse_memory, refuse_path};
+use crate::new_file::{refuse_target, refuse_word, target_name};
+use crate::statuses::DONE;
 use crate::target::Target;
 use crate::texts::Printed;
-use crate::word_bytes::{bytes_of, is_marked};
 use pe_tool::{
     Counted, Outcome, ShownName, Sink, Source, ToolError, rebase, rebase_sized, rebase_summed,
     rebase_summed_sized,
 };
 use pe_view::View;
-use std::alloc::{AllocError, Allocator};
-use std::borrow::CowSlice;
-use std::io::{Error, ErrorKind, Input, Read, Seek, Write};
-use std::os::unix::fs::MetadataExt;
+use std::alloc::Allocator;
+use std::io::{Error, Input, Read, Seek, Write};
 use std::rt::Files;
-use std::{fs, str};
+use std::str;
 
 /// The size of the room for the line, in bytes.
 const LINE_ROOM: usize = 1 << 8;
@@ -112,39 +110,6 @@ fn tell_changes(rt: &impl Eprint, new: NewFile, target: &[u8], first: View) {
     }
 }
 
-/// The name in messages of the file that a word names as the target.
-fn target_name<A: Allocator>(alloc: A, target: &str) -> Result<CowSlice<'_, u8, A>, AllocError> {
-    if target == "-" {
-        return Ok(CowSlice::Borrowed(STANDARD_OUTPUT));
-    }
-    bytes_of(alloc, target)
-}
-
-/// The path at which the system has the file of a word; `stream` is that of the stream which `-` is.
-fn path_of<'a>(word: &'a str, stream: &'static str) -> &'a str {
-    if word == "-" { stream } else { word }
-}
-
-/// Whether source and target are one file, also by links. Streams are one file only if that is a regular file, since two may come
-/// from and go to one terminal. What is not there is no file.
-fn is_same_file(rt: &impl Files, source: &str, target: &str) -> bool {
-    let is_stream = source == "-" || target == "-";
-    let from = fs::metadata(rt, path_of(source, "/dev/stdin"));
-    let to = fs::metadata(rt, path_of(target, "/dev/stdout"));
-    let (Ok(from), Ok(to)) = (from, to) else {
-        return source == target && !is_stream;
-    };
-    from.dev() == to.dev() && from.ino() == to.ino() && (from.is_file() || !is_stream)
-}
-
-/// Why source and target cannot be those of `rebase`, if they cannot.
-fn refusal_of(rt: &impl Files, source: &str, target: &str) -> Option<&'static str> {
-    if is_marked(target) {
-        return Some("cannot be written, since its name is not UTF-8");
-    }
-    is_same_file(rt, source, target).then_some("is the input file")
-}
-
 /// Prints the line of the engine: on standard output, or on standard error if the new file is there. Returns the system's error if
 /// standard output failed.
 fn print_line(rt: &(impl Print + Eprint), target: &str, line: &[u8]) -> Option<Error> {
@@ -154,16 +119,6 @@ fn print_line(rt: &(impl Print + Eprint), target: &str, line: &[u8]) -> Option<E
         return None;
     }
     rt.write_all(line).err()
-}
-
-/// Reports that the new file could not be written, and returns the exit status.
-fn refuse_target(rt: &impl Eprint, name: &[u8], error: Error) -> u8 {
-    if error.kind() == ErrorKind::OutOfMemory {
-        tell_failure(rt, name, ToolError::Memory, None);
-        return OUT_OF_MEMORY;
-    }
-    tell_failure(rt, name, ToolError::Write, Some(error));
-    DEVICE_FAILED
 }
 
 /// Prints the line of the engine, reports what is to be reported, and returns the exit status.
@@ -240,12 +195,8 @@ where
         Ok(file) => file,
         Err(error) => return refuse_path(rt, &from, error),
     };
-    match refusal_of(rt, source, target) {
-        Some(reason) => {
-            let to = ShownName(&to);
-            let _ = eprintln!(rt; "petool: {to}: {reason}");
-            DEVICE_FAILED
-        }
+    match refuse_word(rt, &to, source, target) {
+        Some(status) => status,
         None => rebase_file(rt, new, (&from, &to), file, target),
     }
 }

@@ -6,11 +6,12 @@ use crate::headed::{Headed, Heading};
 use crate::output::Output;
 use pe_tool::{
     Beyond, Counted, Detail, FileKind, Outcome, Page, PartSource, Placed, Policy, SetEntry,
-    ShowOptions, Sink, Source, Spot, ToolError, archive_text, at_each_sized, at_each_text,
-    check_parts, check_sized, check_text, dump_object_sized, dump_parts, dump_sized, dump_text,
-    fault_detail, file_kind, json, json_parts, json_sized, map_report, map_report_unbound,
-    object_text, read_up_to, read_whole, resource_list_sized, resource_list_text, show_page,
-    show_page_sized, size_fault, sum_sized, sum_text, write_refusal,
+    ShowOptions, Sink, Source, Spot, ToolError, ViewFile, archive_json, archive_json_text,
+    archive_text, at_each_sized, at_each_text, check_parts, check_sized, check_text,
+    dump_object_sized, dump_parts, dump_sized, dump_text, fault_detail, file_kind, json_parts,
+    json_sized, map_report, map_report_unbound, object_text, print_line, read_up_to, read_whole,
+    resource_list_sized, resource_list_text, show_archive, show_archive_text, show_page_sized,
+    show_page_text, size_fault, sum_sized, sum_text, write_refusal,
 };
 use pe_view::{Fault, View};
 use std::alloc::Allocator;
@@ -31,13 +32,13 @@ pub enum Engine<'e> {
     Object,
     /// `pe_tool::dump_archive`
     Archive,
-    /// `pe_tool::show_page`
+    /// `pe_tool::show_page`, or of an archive `pe_tool::show_archive`
     Show {
         options: ShowOptions,
         /// How many columns pages have.
         width: usize,
     },
-    /// `pe_tool::json`
+    /// `pe_tool::json`, or of an archive `pe_tool::archive_json`
     Json {
         /// What lines have beyond the profile.
         beyond: Option<Beyond>,
@@ -213,6 +214,68 @@ fn write_archive<A: Allocator + Copy, R: Source, W: Sink>(
     archive_text(alloc, &file.bytes, writer)
 }
 
+/// Writes the page of a file that was read whole.
+fn page_of<A: Allocator + Copy, W: Sink>(
+    alloc: A,
+    page: &Page,
+    file: &[u8],
+    writer: &mut W,
+) -> Result<Outcome, ToolError>
+    requires { W.failures writer.old < 2 ^ 64 - 1 }
+{
+    if is_archive(file) {
+        show_archive_text(alloc, page, file, writer)
+    } else {
+        show_page_text(alloc, page, file, writer)
+    }
+}
+
+/// Writes the lines of JSON of a file that was read whole.
+fn json_of<A: Allocator + Copy, W: Sink>(
+    alloc: A,
+    name: &[u8],
+    beyond: Option<Beyond>,
+    file: &[u8],
+    writer: &mut W,
+) -> Result<Outcome, ToolError>
+    requires { W.failures writer.old < 2 ^ 64 - 1 }
+{
+    if is_archive(file) {
+        archive_json_text(alloc, name, file, writer)
+    } else {
+        print_line(alloc, writer, name, beyond, ViewFile::whole(file))
+    }
+}
+
+/// Reads a file whole, and writes its page.
+fn write_page<A: Allocator + Copy, R: Source, W: Sink>(
+    alloc: A,
+    page: &Page,
+    reader: &mut R,
+    writer: &mut W,
+) -> Result<Outcome, ToolError>
+    requires reads { R.failures reader.old < 2 ^ 64 - 1 }
+    requires writes { W.failures writer.old < 2 ^ 64 - 1 }
+{
+    let file = read_whole(alloc, reader)?;
+    page_of(alloc, page, &file, writer)
+}
+
+/// Reads a file whole, and writes its lines of JSON.
+fn write_json<A: Allocator + Copy, R: Source, W: Sink>(
+    alloc: A,
+    name: &[u8],
+    beyond: Option<Beyond>,
+    reader: &mut R,
+    writer: &mut W,
+) -> Result<Outcome, ToolError>
+    requires reads { R.failures reader.old < 2 ^ 64 - 1 }
+    requires writes { W.failures writer.old < 2 ^ 64 - 1 }
+{
+    let file = read_whole(alloc, reader)?;
+    json_of(alloc, name, beyond, &file, writer)
+}
+
 /// Runs an engine over a file whose size is not known, which is read whole.
 fn write_whole<A: Allocator + Copy, R: Source, W: Sink>(
     alloc: A,
@@ -235,9 +298,9 @@ fn write_whole<A: Allocator + Copy, R: Source, W: Sink>(
                 options: &options,
                 width,
             };
-            (show_page(alloc, &page, reader, writer), None)
+            (write_page(alloc, &page, reader, writer), None)
         }
-        Engine::Json { beyond } => (json(alloc, name, beyond, reader, writer), None),
+        Engine::Json { beyond } => (write_json(alloc, name, beyond, reader, writer), None),
         Engine::Sum => write_lines(alloc, Lines::Sum, reader, writer),
         Engine::At(spots) => write_lines(alloc, Lines::At(spots), reader, writer),
         Engine::Resources => write_lines(alloc, Lines::Resources, reader, writer),
@@ -329,6 +392,57 @@ fn try_parts<A: Allocator + Copy, F: Read + Seek, W: Sink>(
     write_parts(alloc, engine, name, &mut reader, size, writer)
 }
 
+/// Whether an engine has an archive in its own form, and not as a file that is neither image nor object.
+fn tells_archives(engine: Engine) -> bool {
+    matches!(engine, Engine::Show { .. } | Engine::Json { .. })
+}
+
+/// Whether an open file is an archive that an engine tells in its own form. Its first bytes are read for that, and it begins again.
+fn is_told_archive<A: Allocator + Copy, F: Read + Seek>(
+    alloc: A,
+    engine: Engine,
+    file: &mut F,
+    size: u64,
+) -> Result<bool, ToolError> {
+    if !tells_archives(engine) || is_too_large(size) {
+        return Ok(false);
+    }
+    let beginning = read_up_to(
+        &mut Counted::new(&mut *file),
+        Vec::new(alloc),
+        SIGNATURE_LEN,
+    )?;
+    match file.rewind() {
+        Ok(()) => Ok(is_archive(&beginning.bytes)),
+        Err(_) => Err(ToolError::Read),
+    }
+}
+
+/// Runs an engine over an archive.
+fn write_told_archive<A: Allocator + Copy, R: Source, W: Sink>(
+    alloc: A,
+    engine: Engine,
+    name: &[u8],
+    reader: &mut R,
+    writer: &mut W,
+) -> Result<Outcome, ToolError>
+    requires reads { R.failures reader.old < 2 ^ 64 - 1 }
+    requires writes { W.failures writer.old < 2 ^ 64 - 1 }
+{
+    match engine {
+        Engine::Json { .. } => archive_json(alloc, name, reader, writer),
+        Engine::Show { options, width } => {
+            let page = Page {
+                name,
+                options: &options,
+                width,
+            };
+            show_archive(alloc, &page, reader, writer)
+        }
+        _ => write_archive(alloc, reader, writer),
+    }
+}
+
 /// Runs an engine over a file of `size` bytes, of which it may need only some parts.
 fn write_regular<A: Allocator + Copy>(
     alloc: A,
@@ -339,6 +453,17 @@ fn write_regular<A: Allocator + Copy>(
     writer: impl Write + Drop,
 ) -> Judged {
     let mut writer = Counted::new(writer);
+    match is_told_archive(alloc, engine, &mut file, size) {
+        Ok(true) => {
+            let mut reader = Counted::new(file);
+            return (
+                write_told_archive(alloc, engine, name, &mut reader, &mut writer),
+                None,
+            );
+        }
+        Ok(false) => {}
+        Err(error) => return (Err(error), None),
+    }
     let tried = try_parts(alloc, engine, name, &mut file, size, &mut writer);
     if let Ok(Some(outcome)) = tried {
         return (Ok(outcome), None);

@@ -10,7 +10,7 @@ use pe_view::{Fault, Place, Refusal};
 #[repr(C)]
 #[derive(Clone, Copy)]
 pub struct FaultRecord {
-    /// Its number in docs/FAULTS.md: of a fault from 1 to 85, of a finding from 101 on.
+    /// Its number in docs/FAULTS.md: of a fault from 1 to 93, of a finding from 101 on.
     pub number: u16,
     /// What `at` counts: 0 bytes of the file, 1 bytes of the image, 2 bytes of the address space, 3 items of a list.
     pub place: u16,

@@ -1,15 +1,17 @@
 //! `show`: the engine of `petool show`, which writes the page of an image or an object.
 
-ghost use Rattle.std.specs.Prelude.{◌-◌, ◌^◌, ◌<◌, ◌↔◌, IsErrOf};
+ghost use Rattle.std.specs.Prelude.{◌-◌, ◌^◌, ◌<◌, ◌↔◌, length, IsErrOf};
 ghost use Rattle.pe_reach.specs.Sized.{RanSized};
-ghost use Rattle.pe_text.specs.Engine.{Ran};
+ghost use Rattle.pe_text.specs.Engine.{Puts, Ran};
 ghost use Rattle.pe_page.specs.Judged.{IsJudged};
 
 use crate::image::{show_image, write_unread};
 use crate::object::{show_object, write_refused};
 use pe_page::{Page, outcomes_agree};
 use pe_reach::{ViewFile, ViewReport, WholeView, run_view, view_fault};
-use pe_text::{Outcome, ShowOptions, Sink, Source, TextWriter, ToolError, run_report};
+use pe_text::{
+    Outcome, ShowOptions, Sink, Source, TextWriter, ToolError, run_report, write_report,
+};
 use pe_view::Fault;
 use std::alloc::{AllocError, Allocator};
 
@@ -149,4 +151,21 @@ pub fn show_page_sized<A: Allocator + Copy, R: Source, W: Sink>(
 {
     outcomes_agree();
     run_view(&PageReport(*page), alloc, reader, len, writer)
+}
+
+/// The page of [`show_page`] for a file that was read whole, and that its caller keeps. On the error `Write` the beginning of the page
+/// was written, on `Memory` nothing; `Read` never comes, and `Memory` not for an empty file. Condition: the writer has counted fewer
+/// than 2^64 - 1 failures so far.
+pub fn show_page_text<A: Allocator + Copy, W: Sink>(
+    alloc: A,
+    page: &Page,
+    file: &[u8],
+    writer: &mut W,
+) -> Result<Outcome, ToolError>
+    requires { W.failures writer.old < 2 ^ 64 - 1 }
+    ensures puts { Puts (IsJudged file.now) (W.taken writer.old) (W.taken writer.new)
+        (W.failures writer.old) (W.failures writer.new) result }
+    ensures memory { IsErrOf result ToolError.Memory → 0 < length file.now }
+{
+    write_report(&WholeView(&PageReport(*page)), alloc, writer, file)
 }

@@ -33,6 +33,6 @@ mod sections;
 mod symbols;
 // end of describe/records.txt
 
-pub use engine::{show, show_page, show_page_sized, show_sized};
+pub use engine::{show, show_page, show_page_sized, show_page_text, show_sized};
 pub use pe_page::Page;
 pub use pe_text::ShowOptions;

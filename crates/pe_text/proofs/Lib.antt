@@ -8,6 +8,7 @@ pub mod Reports
 pub mod Rows
 pub mod RuleWords
 pub mod Sentences
+pub mod ShortNumbers
 pub mod Tested
 pub mod Token
 pub mod Widths

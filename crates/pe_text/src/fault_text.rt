@@ -19,7 +19,7 @@ pub struct FaultWords {
 }
 
 /// The words of each fault: its number, what is at its place, and the rule that it breaks.
-static RULES: [(u16, &str, &str); 69] = [
+static RULES: [(u16, &str, &str); 72] = [
     (1, "byte", "the file is larger than 2^32 bytes"),
     (
         2,
@@ -301,6 +301,13 @@ static RULES: [(u16, &str, &str); 69] = [
     ),
     (84, "object", "its file would have more than 2^32 - 1 bytes"),
     (85, "object", "a part of it does not fit the format"),
+    (91, "archive", "it has more than 65,535 members"),
+    (
+        92,
+        "name",
+        "the name of the member is empty, has a zero byte or a line end in it, or ends in /",
+    ),
+    (93, "member", "it ends past 2^32 - 1 bytes of the archive"),
 ];
 
 /// The words of each finding, as [`RULES`] has those of faults.

@@ -1,6 +1,6 @@
 //! `TextWriter`: writes numbers and quoted strings to a sink, in pieces of at most 256 bytes.
 
-ghost use Rattle.std.specs.Prelude.{◌≡◌, ◌-◌, ◌^◌, ◌<◌, ◌≤◌, length, take, slice_index_or, [], decimal, flat_map, ℕ, List, true, false};
+ghost use Rattle.std.specs.Prelude.{◌≡◌, ◌+◌, ◌-◌, ◌^◌, ◌<◌, ◌≤◌, length, take, slice_index_or, [], decimal, flat_map, ℕ, List, true, false};
 ghost use Rattle.pe_text.specs.TextWriter.{WritesAll, Finishes};
 ghost use Rattle.pe_text.specs.Text.{hex, hex_at_least, is_plain, escaped, quoted};
 
@@ -11,6 +11,15 @@ use itoa::write_digits;
 
 /// The most decimal digits that a number has.
 const DECIMAL_DIGITS: usize = 20;
+
+/// The digit of a number below 10.
+#[inline]
+fn digit(number: u64) -> u8
+    requires { number < 10 }
+    ensures { result ≡ 48 + number }
+{
+    b'0' + number as u8
+}
 
 /// Writes text to a sink in pieces of at most 256 bytes.
 ///
@@ -147,8 +156,53 @@ impl<'w, W: Sink> TextWriter<'w, W> {
         }
     }
 
+    /// Adds a number below 100 in decimal.
+    #[inline]
+    fn two_digits(&mut self, number: u64)
+        requires ready { IsReady W.failures self.old }
+        requires small { number < 100 }
+        ensures { Adds W.taken W.failures self.old self.new (decimal number) }
+    {
+        if number < 10 {
+            self.text(&[digit(number)]);
+        } else {
+            self.text(&[digit(number / 10), digit(number % 10)]);
+        }
+    }
+
+    /// Adds a number below 10,000 in decimal. Most numbers are such, and their digits are copied by no call.
+    #[inline]
+    fn four_digits(&mut self, number: u64)
+        requires ready { IsReady W.failures self.old }
+        requires small { number < 10000 }
+        ensures { Adds W.taken W.failures self.old self.new (decimal number) }
+    {
+        let ones = digit(number % 10);
+        let tens = digit(number / 10 % 10);
+        let hundreds = digit(number / 100 % 10);
+        if number < 100 {
+            self.two_digits(number);
+        } else if number < 1000 {
+            self.text(&[hundreds, tens, ones]);
+        } else {
+            self.text(&[digit(number / 1000), hundreds, tens, ones]);
+        }
+    }
+
     /// Adds a number in decimal.
     pub fn decimal(&mut self, number: u64)
+        requires { IsReady W.failures self.old }
+        ensures { Adds W.taken W.failures self.old self.new (decimal number) }
+    {
+        if number < 10_000 {
+            self.four_digits(number);
+        } else {
+            self.long_decimal(number);
+        }
+    }
+
+    /// Adds a number in decimal, whatever its length.
+    fn long_decimal(&mut self, number: u64)
         requires { IsReady W.failures self.old }
         ensures { Adds W.taken W.failures self.old self.new (decimal number) }
     {

@@ -1,7 +1,7 @@
-//! The words of `petool archive` that ask for one member.
+//! The words of `petool archive` that ask for one member, or for a new archive.
 
 use crate::builders::{argument, with_argument};
-use crate::file_words::file_of;
+use crate::file_words::files_of;
 use crate::job::Job;
 use crate::word_values::{BadValue, NoJob};
 use clap::{ArgMatches, Command};
@@ -13,7 +13,11 @@ const EXTRACT: &str = "Writes what the member with this name holds, as it stands
 /// The help on `--index`.
 const INDEX: &str = "Of several members with the name takes this one, counted from 1";
 
-/// The command with the options for one member.
+/// The help on `--create`.
+const CREATE: &str =
+    "Writes the archive OUT of the FILEs, each under the name that is left without its folder, with both linker members";
+
+/// The command with the options for one member, and for a new archive.
 pub(crate) fn with_member_options<'a>(
     alloc: Global,
     command: Result<Command<'a>, AllocError>,
@@ -24,7 +28,10 @@ pub(crate) fn with_member_options<'a>(
     let index = argument(alloc, "index", INDEX)
         .long("index")
         .value_name("N");
-    with_argument(with_argument(command, name), index)
+    let target = argument(alloc, "create", CREATE)
+        .long("create")
+        .value_name("OUT");
+    with_argument(with_argument(with_argument(command, name), index), target)
 }
 
 /// An invalid value of `--index`.
@@ -47,6 +54,51 @@ fn index_of<'a>(found: &ArgMatches<'a>) -> Result<u64, BadValue<'a>> {
     }
 }
 
+/// The only file of `archive` without `--create`.
+fn only_file<'a>(alloc: Global, found: &ArgMatches<'a>) -> Result<String, NoJob<'a>> {
+    let mut only = None;
+    for value in found.get_strs("FILE").unwrap_or(&[]) {
+        if only.is_some() {
+            return Err(NoJob::Bad(BadValue {
+                value,
+                argument: "<FILE>...",
+                reason: "more than one file is for --create",
+            }));
+        }
+        only = Some(String::from_str(alloc, value)?);
+    }
+    Ok(only.unwrap_or(String::new(alloc)))
+}
+
+/// An option that `--create` does not go with, with its value.
+fn other_option<'a>(found: &ArgMatches<'a>) -> Option<BadValue<'a>> {
+    let (value, argument) = match (found.get_str("extract"), found.get_str("index")) {
+        (Some(value), _) => (value, "--extract <NAME>"),
+        (None, Some(value)) => (value, "--index <N>"),
+        (None, None) => (found.get_str("most")?, "--most <BYTES>"),
+    };
+    Some(BadValue {
+        value,
+        argument,
+        reason: "it does not go with --create",
+    })
+}
+
+/// The job of `archive --create`.
+fn create_job<'a, P>(
+    alloc: Global,
+    found: &ArgMatches<'a>,
+    target: &str,
+) -> Result<Job<P>, NoJob<'a>> {
+    match other_option(found) {
+        Some(bad) => Err(NoJob::Bad(bad)),
+        None => Ok(Job::ArchiveCreate {
+            target: String::from_str(alloc, target)?,
+            files: files_of(alloc, found)?,
+        }),
+    }
+}
+
 /// The job of `archive` without a member.
 fn dump_job<'a, P>(
     found: &ArgMatches<'a>,
@@ -65,7 +117,10 @@ pub(crate) fn archive_job<'a, P>(
     found: &ArgMatches<'a>,
     most: Option<u64>,
 ) -> Result<Job<P>, NoJob<'a>> {
-    let file = file_of(alloc, found, "FILE")?;
+    if let Some(target) = found.get_str("create") {
+        return create_job(alloc, found, target);
+    }
+    let file = only_file(alloc, found)?;
     let Some(name) = found.get_str("extract") else {
         return dump_job(found, most, file);
     };

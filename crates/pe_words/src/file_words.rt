@@ -23,7 +23,7 @@ pub(crate) struct FileCommand {
     takes_several: bool,
     /// Whether it has the options for what is beyond the profile: `--all`, `--functions` and `--no-digest`.
     has_beyond: bool,
-    /// Whether it has the options for one member: `--extract` and `--index`.
+    /// Whether it has the options for one member and for a new archive: `--extract`, `--index` and `--create`.
     has_members: bool,
     /// Whether it has the option `--most`.
     has_most: bool,
@@ -32,8 +32,8 @@ pub(crate) struct FileCommand {
 /// The command `show`.
 pub(crate) const SHOW: FileCommand = FileCommand {
     name: "show",
-    about: "Prints a page on each image or object: what it is, its sections and its tables, or its first fault",
-    file: "Images or objects, or - for standard input",
+    about: "Prints a page on each image, object or archive: what it is, its sections or members and its tables, or its first fault",
+    file: "Images, objects or archives, or - for standard input",
     takes_several: true,
     has_beyond: false,
     has_members: false,
@@ -72,16 +72,16 @@ pub(crate) const FILE_COMMANDS: [FileCommand; 6] = [
     FileCommand {
         name: "archive",
         about: "Prints each member of an archive of COFF objects, with what petool object prints of it, or a line for an import object",
-        file: "An archive, or - for standard input",
-        takes_several: false,
+        file: "An archive, or - for standard input; with --create what is to be in it",
+        takes_several: true,
         has_beyond: false,
         has_members: true,
         has_most: true,
     },
     FileCommand {
         name: "json",
-        about: "Prints each image or object, and its first fault if it is refused, as one line of JSON",
-        file: "Images or objects, or - for standard input",
+        about: "Prints each image or object, and its first fault if it is refused, as one line of JSON, and of an archive each member",
+        file: "Images, objects or archives, or - for standard input",
         takes_several: true,
         has_beyond: true,
         has_members: false,
@@ -220,7 +220,7 @@ pub(crate) fn file_of(
 }
 
 /// The files of a command.
-fn files_of(alloc: Global, found: &ArgMatches<'_>) -> Result<Vec<String>, AllocError> {
+pub(crate) fn files_of(alloc: Global, found: &ArgMatches<'_>) -> Result<Vec<String>, AllocError> {
     let mut files = Vec::new(alloc);
     for value in found.get_strs("FILE").unwrap_or(&[]) {
         files.push(String::from_str(alloc, value)?)?;

@@ -119,6 +119,12 @@ pub enum Job<P> {
         name: String,
         index: u64,
     },
+    /// `archive --create OUT FILE...`: write an archive of these files.
+    ArchiveCreate {
+        /// The path of the archive.
+        target: String,
+        files: Vec<String>,
+    },
     /// `rebase HEX IN OUT`: write the file of an image for another base.
     Rebase {
         base: u64,

@@ -1,6 +1,6 @@
-//! Archives: `petool_archive_check`, `_members`, `_symbols`, `_import` and `_findings`.
+//! Archives: `petool_archive_check`, `_members`, `_symbols`, `_import`, `_findings` and `_write`.
 
-ghost use Rattle.std.specs.Prelude.{◌≡◌, ◌≢◌, ◌⊎◌};
+ghost use Rattle.std.specs.Prelude.{◌≡◌, ◌≢◌, ◌⊎◌, None, length, map, nat_le, if◌then◌else◌};
 ghost use Rattle.pe_view.specs.Faults.{first_standing};
 ghost use Rattle.coff_archive.specs.FileTests.{file_tests, is_thin_file};
 ghost use Rattle.coff_archive_c.specs.ArchiveFindings.{archive_findings_of};
@@ -8,7 +8,10 @@ ghost use Rattle.coff_archive_c.specs.Calls.{FindingsTakeMemory, NamesTakeMemory
 ghost use Rattle.coff_archive_c.specs.ImportRecords.{import_checks, import_text, import_told};
 ghost use Rattle.coff_archive_c.specs.MemberRows.{member_row, member_text, whole_members};
 ghost use Rattle.coff_archive_c.specs.SymbolRows.{ReadsSymbols, linker_numbered};
-ghost use Rattle.pe_records_c.specs.Faults.{IsRefusedBy, fault_record};
+ghost use Rattle.coff_library.specs.Members.{member_view};
+ghost use Rattle.coff_library.specs.WriteFaults.{member_tests, write_tests};
+ghost use Rattle.coff_library.specs.WrittenInto.{IsWrittenInto};
+ghost use Rattle.pe_records_c.specs.Faults.{IsAccepted, IsAnswered, IsRefused, IsRefusedBy, fault_record};
 ghost use Rattle.pe_records_c.specs.Rows.{ReadsTable};
 ghost use Rattle.pe_tables_c.specs.Told.{ReadsRecord};
 
@@ -17,7 +20,9 @@ use coff_archive_c::finding::{archive_findings, tell_findings};
 use coff_archive_c::import::{ImportObjectRecord, tell_import};
 use coff_archive_c::member::{ArchiveMemberRow, tell_members};
 use coff_archive_c::symbol::{ArchiveSymbolRow, linker_numbered, tell_symbols};
-use pe_records_c::fault::{FaultRecord, refuse};
+use coff_library::{NewMember, write_archive_into};
+use pe_records_c::fault::{FaultRecord, refuse, refuse_for};
+use pe_records_c::row::table_status;
 use pe_records_c::status;
 use std::alloc::Global;
 
@@ -128,5 +133,34 @@ pub extern "C" fn petool_archive_findings(
     match archive_findings(alloc, &archive) {
         Ok(found) => tell_findings(found.as_slice(), rows, count),
         Err(_) => status::MEMORY,
+    }
+}
+
+/// Writes the archive of members, with both linker members, into a buffer.
+///
+/// The status is 0; 4 if the archive has more bytes than the buffer, which then holds the first of them; 1 with the first of faults 91
+/// to 93; or 2, out of memory, which never comes if a member has fault 91 or 92. The count is that of all bytes; 1 and 2 leave it and
+/// the buffer unchanged. ("PE Format": Archive (Library) File Format.)
+#[unsafe(no_mangle)]
+pub extern "C" fn petool_archive_write(
+    alloc: Global,
+    members: &[NewMember],
+    buffer: &mut [u8],
+    count: &mut usize,
+    fault: &mut FaultRecord,
+) -> u32
+    ensures faults { IsAnswered (first_standing (member_tests (map member_view members.now)) ≡ None) (write_tests (map member_view members.now)) fault.old fault.new result }
+    ensures written { IsAccepted result → IsWrittenInto (map member_view members.now) buffer.old buffer.new count.new }
+    ensures status { IsAccepted result → result ≡ (if nat_le count.new (length buffer.old) then 0 else 4) }
+    ensures buffer_kept { IsRefused result → buffer.new ≡ buffer.old }
+    ensures count_kept { IsRefused result → count.new ≡ count.old }
+{
+    let room = buffer.len();
+    match write_archive_into(alloc, members, buffer) {
+        Ok(len) => {
+            *count = len;
+            table_status(len, room)
+        }
+        Err(refusal) => refuse_for(refusal, fault),
     }
 }

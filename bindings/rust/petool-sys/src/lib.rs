@@ -185,7 +185,7 @@ pub struct Text {
 #[repr(C)]
 #[derive(Clone, Copy, Debug, Default, PartialEq, Eq, Hash)]
 pub struct Fault {
-    /// As in docs/FAULTS.md: of a fault from 1 to 85, of a finding from 101 on.
+    /// As in docs/FAULTS.md: of a fault from 1 to 93, of a finding from 101 on.
     pub number: u16,
     /// What `at` counts: a `PETOOL_PLACE`.
     pub place: u16,
@@ -1067,6 +1067,16 @@ impl ArchiveSymbol {
     };
 }
 
+/// A member of an archive to be written.
+#[repr(C)]
+#[derive(Clone, Copy, Debug)]
+pub struct NewMember {
+    /// The name, which may have `/` in it, but not at its end.
+    pub name: Text,
+    /// What it holds: an object, a short import object, or anything else.
+    pub bytes: Text,
+}
+
 /// A short import object, which an import library has for each name that a DLL exports.
 #[repr(C)]
 #[derive(Clone, Copy, Debug)]
@@ -1489,6 +1499,14 @@ extern "C" {
         file: *const u8,
         len: usize,
         rows: *mut Fault,
+        room: usize,
+        count: *mut usize,
+        fault: *mut Fault,
+    ) -> u32;
+    pub fn petool_archive_write(
+        members: *const NewMember,
+        entries: usize,
+        buffer: *mut u8,
         room: usize,
         count: *mut usize,
         fault: *mut Fault,

@@ -124,6 +124,7 @@ fn the_records_of_archives_are_laid_out_as_in_c() {
     layout!(ArchiveMember, 120, 8, name 0, bytes 16, offset 32, size 40, date 48, user 64, group 80,
         mode 96, kind 112, has_name 116);
     layout!(ArchiveSymbol, 32, 8, name 0, member 16);
+    layout!(NewMember, 32, 8, name 0, bytes 16);
     layout!(ImportObject, 64, 8, symbol 0, module 16, name 32, time_date_stamp 48, machine 52,
         ordinal 54, kind 56, name_type 57);
 }

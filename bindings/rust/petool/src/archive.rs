@@ -1,7 +1,7 @@
 //! Archives of COFF objects.
 
-use crate::rows::{read_rows, rows_of, text_of};
-use crate::{Fault, OutOfMemory};
+use crate::rows::{read_rows, room_of, rows_of, text_of};
+use crate::{Error, Fault, OutOfMemory};
 use petool_sys as sys;
 
 /// An archive of COFF objects: a file that begins as one. What is wrong with its members refuses no archive:
@@ -215,4 +215,58 @@ impl<'a> Archive<'a> {
         let rows = rows_of(self.file, sys::Fault::default(), sys::petool_archive_findings)?;
         Ok(rows.into_iter().map(Fault::of).collect())
     }
+}
+
+/// A member of an archive to be written.
+#[derive(Clone, Copy, Debug, PartialEq, Eq, Hash)]
+pub struct NewMember<'a> {
+    /// Its name, which may have `/` in it, but not at its end.
+    pub name: &'a [u8],
+    /// What it holds: an object, a short import object, or anything else.
+    pub bytes: &'a [u8],
+}
+
+/// How many bytes an archive is guessed to have for each member, with its symbols.
+const MEMBER_GUESS: usize = 1024;
+
+/// The archive of members. It has both linker members, which name the public symbols of the objects. The fault is the
+/// first of 91 to 93, at the index of a member.
+///
+/// ```
+/// use petool::{write_archive, Archive, NewMember};
+///
+/// let file = write_archive(&[NewMember { name: b"a.txt", bytes: b"a text" }])?;
+/// assert_eq!(Archive::new(&file)?.members()?[2].name, Some(&b"a.txt"[..]));
+/// # Ok::<(), Box<dyn std::error::Error>>(())
+/// ```
+pub fn write_archive(members: &[NewMember<'_>]) -> Result<Vec<u8>, Error> {
+    let blank = sys::NewMember {
+        name: sys::Text::of(b""),
+        bytes: sys::Text::of(b""),
+    };
+    let mut raw = room_of(blank, members.len())?;
+    for (row, member) in raw.iter_mut().zip(members) {
+        *row = sys::NewMember {
+            name: sys::Text::of(member.name),
+            bytes: sys::Text::of(member.bytes),
+        };
+    }
+    let guess = members.iter().fold(0, |sum: usize, it| {
+        sum.saturating_add(it.bytes.len()).saturating_add(MEMBER_GUESS)
+    });
+    let mut fault = sys::Fault::default();
+    let written = read_rows(guess, 0, |buffer, count| {
+        // SAFETY: the members and their texts are complete slices, which nobody writes to; the buffer is not shared
+        unsafe {
+            sys::petool_archive_write(
+                raw.as_ptr(),
+                raw.len(),
+                buffer.as_mut_ptr(),
+                buffer.len(),
+                count,
+                &mut fault,
+            )
+        }
+    });
+    written.map_err(|status| Error::of(status, fault))
 }

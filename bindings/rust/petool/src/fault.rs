@@ -32,7 +32,7 @@ impl fmt::Display for Place {
 /// It is shown in words: `section header at 0x138: the section's raw data extends past the end of the file`.
 #[derive(Clone, Copy, Debug, PartialEq, Eq, Hash)]
 pub struct Fault {
-    /// Which rule: of a fault from 1 to 85, of a finding from 101 on.
+    /// Which rule: of a fault from 1 to 93, of a finding from 101 on.
     pub number: u16,
     /// The index of the entry in a set; otherwise 0.
     pub image: u32,

@@ -43,7 +43,7 @@ mod space;
 mod tables;
 mod trust;
 
-pub use archive::{Archive, ArchiveMember, ArchiveSymbol, ImportObject, Linker, MemberKind};
+pub use archive::{write_archive, Archive, ArchiveMember, ArchiveSymbol, ImportObject, Linker, MemberKind, NewMember};
 pub use beyond::{BoundImport, Pdb, PdbSignature, Tls};
 pub use fault::{name_of, Error, Fault, MoveError, Named, OutOfMemory, Place, SetError};
 pub use fields::{ClrField, ClrHeader, LoadConfiguration, LoadField};

@@ -1,6 +1,6 @@
 //! Archives: members, symbols, short import objects and findings of archives that are put together byte by byte.
 
-use petool::{Archive, ImportObject, Linker, MemberKind, Place};
+use petool::{write_archive, Archive, Error, ImportObject, Linker, MemberKind, NewMember, Place};
 
 /// A member with its header: name, date, user, group and mode are texts that blanks fill up.
 fn member(name: &str, numbers: [&str; 4], content: &[u8]) -> Vec<u8> {
@@ -160,4 +160,49 @@ fn other_files_are_refused() {
         assert_eq!((fault.number, fault.place), (300, Place::File(0)));
     }
     assert_eq!(Archive::new(b"!<arch>\n").unwrap().members(), Ok(vec![]));
+}
+
+#[test]
+fn written_archives_are_read_back() {
+    let import = import_object(4);
+    let members = [
+        NewMember {
+            name: b"a.txt",
+            bytes: b"odd",
+        },
+        NewMember {
+            name: b"dir/of/k.dll",
+            bytes: &import,
+        },
+        NewMember {
+            name: b"empty",
+            bytes: b"",
+        },
+    ];
+    let file = write_archive(&members).unwrap();
+    let archive = Archive::new(&file).unwrap();
+    let found = archive.members().unwrap();
+    assert_eq!(found.len(), 6);
+    let told: Vec<_> = found[3..].iter().map(|it| (it.name.unwrap(), it.bytes)).collect();
+    assert_eq!(told, members.map(|it| (it.name, it.bytes)));
+    for linker in [Linker::First, Linker::Second] {
+        let symbols = archive.symbols(linker).unwrap().unwrap();
+        let told: Vec<_> = symbols.iter().map(|it| (it.name, it.member)).collect();
+        let offset = Some(found[4].offset);
+        assert_eq!(told, [(&b"__imp_f"[..], offset), (&b"f"[..], offset)]);
+    }
+    assert_eq!(archive.findings().unwrap(), []);
+    assert_eq!(write_archive(&[]).unwrap().len(), 8 + 60 + 4 + 60 + 8);
+}
+
+#[test]
+fn names_that_would_be_read_back_as_others_are_refused() {
+    let good = NewMember { name: b"a", bytes: b"" };
+    for name in [&b""[..], b"a/", b"a\nb", b"a\0"] {
+        let bad = NewMember { name, bytes: b"" };
+        match write_archive(&[good, bad, bad]).unwrap_err() {
+            Error::Fault(fault) => assert_eq!((fault.number, fault.place), (92, Place::Item(1))),
+            error => panic!("{error}"),
+        }
+    }
 }

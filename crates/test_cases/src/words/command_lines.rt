@@ -141,6 +141,10 @@ fn print_job<R: Print>(rt: &R, job: &Job) -> Option<()> {
         Job::ArchiveMember { file, name, index } => println!(rt;
             "member {index} of {name:?} of {file}"
         ).ok(),
+        Job::ArchiveCreate { target, files } => {
+            println!(rt; "archive into {target}").ok()?;
+            print_files(rt, "of", files)
+        }
         Job::Map {
             policy,
             window,

@@ -1,0 +1,7 @@
+use Rattle.std.proofs.Common.{[], ◌∷◌, codes}
+use Rattle.pe_json.specs.JsonText.{name, number}
+use Rattle.pe_json.proofs.Objects.{whole_line}
+use Rattle.coff_archive_json.proofs.line.write_refused_line.Goals as goal
+
+pub returns : goal.returns
+returns g c = whole_line (number (codes "schema") 1) (name (codes "archive") c.args.name.now ∷ []) _ c.begin.ensures c.write_refusal.ensures c.text.ensures c.text-2.ensures

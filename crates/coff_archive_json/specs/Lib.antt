@@ -1,0 +1,10 @@
+pub use Rattle.pe_view.specs.Faults
+pub use Rattle.coff_archive.specs.FileTests
+pub use Rattle.coff_lines.specs.ArchiveLines
+pub use Rattle.pe_text.specs.Engine
+pub mod ArchiveJson
+pub mod ArchiveLine
+pub mod ImportMembers
+pub mod Line
+pub mod MemberLine
+pub mod SymbolRows

@@ -1,0 +1,14 @@
+use Rattle.std.proofs.Common.{length, ◌≤◌, ◌-◌}
+use Rattle.pe_text.specs.TextWriter.{IsReady}
+use Rattle.pe_page.specs.Page.{AddsSome}
+use Rattle.coff_archive_page.proofs.symbol_rows.write_symbols.Given as goal
+
+abbrev pub invariant-loop-at : goal.invariant-loop-at
+invariant-loop-at g l = record {
+  within : l.at ≤ length l.symbols;
+  ready : IsReady g.W.Sink.failures l.text;
+  adds : AddsSome g.W.Sink.taken g.W.Sink.failures l.fn.text l.text;
+}
+
+abbrev pub decreases-loop-at : goal.decreases-loop-at
+decreases-loop-at g l = length l.symbols - l.at

@@ -1,0 +1,10 @@
+-- All long names are counted.
+use Rattle.std.proofs.Common.{length, refl}
+use Rattle.std.specs.Prelude.{map}
+use Rattle.coff_library.specs.Members.{member_view}
+use Rattle.coff_library.specs.Written.{long_names}
+use Rattle.coff_library.proofs.Loops.{all_counted}
+use Rattle.coff_library.proofs.layout.long_size.Goals as goal
+
+pub returns : goal.returns
+returns c = all_counted (λ xs. length (long_names (map member_view xs))) c.args.members.now c.loop-member.member-index _ _ c.loop-member-test.false c.loop-member.invariant.small refl c.loop-member.invariant.sum

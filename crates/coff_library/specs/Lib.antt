@@ -1,0 +1,10 @@
+pub mod Members
+pub mod Prefixed
+pub mod PublicNames
+pub mod ReadBack
+pub mod Sizes
+pub mod SymbolView
+pub mod Symbols
+pub mod WriteFaults
+pub mod Written
+pub mod WrittenInto
