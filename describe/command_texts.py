@@ -21,6 +21,7 @@ PURPOSES = {
     **{name: ("file_words.rt", rf'name: "{name}",\s+about: ') for name in ("show", "check", "dump", "object", "archive", "json", "sum")},
     "at": ("at_words.rt", r"const AT_ABOUT: &str =\s+"),
     "map": ("map_words.rt", r"const ABOUT: &str =\s+"),
+    "layout": ("layout_words.rt", r"const ABOUT: &str =\s+"),
     "rebase": ("rebase_words.rt", r"const ABOUT: &str =\s+"),
     "explain": ("at_words.rt", r"const EXPLAIN_ABOUT: &str =\s+"),
     "resource": ("resource_words.rt", r"const ABOUT: &str =\s+"),
@@ -38,6 +39,7 @@ OPTIONS = {
     "extract": ("archive_words.rt", r"const EXTRACT: &str =\s+"),
     "index": ("archive_words.rt", r"const INDEX: &str =\s+"),
     "create": ("archive_words.rt", r"const CREATE: &str =\s+"),
+    "within": ("layout_words.rt", r"const WITHIN: &str =\s+"),
     "check-sum": ("rebase_words.rt", r"const CHECK_SUM: &str =\s+"),
     "known": ("map_words.rt", r"const KNOWN: &str =\s+"),
     "unbound": ("map_words.rt", r"const UNBOUND: &str =\s+"),
@@ -204,7 +206,7 @@ FILES: Dict[str, Callable[[Commands, str], str]] = {
     "crates/pe_bench/src/texts.rt": _whole_page,
     f"{WORDS}/commands.rt": _notes,
     f"{WORDS}/file_words.rt": _file_words,
-    **{f"{WORDS}/{file}": _words(file) for file in ("at_words.rt", "map_words.rt", "rebase_words.rt", "resource_words.rt")},
+    **{f"{WORDS}/{file}": _words(file) for file in ("at_words.rt", "layout_words.rt", "map_words.rt", "rebase_words.rt", "resource_words.rt")},
 }
 #: The parts that a page must have.
 PARTS = {README: ["commands", "statuses"], GUIDE: ["commands", "statuses"], MAN: ["synopses", "commands", "statuses"]}

@@ -11,7 +11,7 @@ import unittest
 
 COMPLETIONS = pathlib.Path(__file__).resolve().parents[1] / "completions.py"
 PROGRAM = os.environ.get("PETOOL_PROGRAM")
-COMMANDS = ["archive", "at", "check", "dump", "explain", "help", "json", "map", "object", "rebase", "resource", "show", "sum"]
+COMMANDS = ["archive", "at", "check", "dump", "explain", "help", "json", "layout", "map", "object", "rebase", "resource", "show", "sum"]
 FILES = ["a file.dll", "a.dll", "b=1.dll", "b=2.dll", "d.dll"]
 # prints what bash would offer for words, of which the last is completed
 ASK = """source ./completion
@@ -79,10 +79,12 @@ class Bash(unittest.TestCase):
             self.assert_offered([], [command, "--most", ""], [command, "--most", "a"], [command, "--most", "="])
         self.assert_offered([], ["at", "a.dll", "a"], ["at", "--file", "a.dll", "a"], ["at", "a.dll", "1", "a"], ["dump", "a.dll", "d"])
         self.assert_offered([], ["rebase", "a"], ["rebase", "10000000", "a.dll", "o.dll", "d"])
+        self.assert_offered([], ["layout", "--within", "a"], ["layout", "a.dll", "o.dll", "d"])
 
     def test_a_file_is_offered_wherever_one_can_stand(self):
         self.assert_offered(["d.dll"], ["at", "d"], ["at", "--address", "d"], ["rebase", "10000000", "d"])
         self.assert_offered(["d.dll"], ["rebase", "10000000", "a.dll", "d"])
+        self.assert_offered(["d.dll"], ["layout", "d"], ["layout", "a.dll", "d"], ["layout", "--within", "4K", "d"])
         self.assert_offered(["d.dll"], ["json", "--most", "4K", "d"], ["json", "--most=4K", "d"], ["json", "--all", "d"])
         self.assert_offered(["d.dll"], ["show", "a.dll", "--all", "d"], ["show", "--most", "=", "4K", "d"], ["check", "-", "d"])
 
@@ -110,7 +112,7 @@ class OtherShells(unittest.TestCase):
         self.assertIn("'1:HEX:' '2:IN:_files' '3:OUT:_files' ;;", zsh)
         self.assertIn("'1:FILE:_files' '*:ADDRESS:' ;;", zsh)
         self.assertIn("'*:HEX=FILE:{compset -P \"*=\" && _files}' ;;", zsh)
-        self.assertIn("'dump 0' 'at 0' 'resource 0' 'object 0' 'archive *' 'json *' 'sum *' 'rebase 1' 'rebase 2'\n", fish)
+        self.assertIn("'dump 0' 'at 0' 'resource 0' 'object 0' 'archive *' 'json *' 'sum *' 'layout 0' 'layout 1' 'rebase 1' 'rebase 2'\n", fish)
         self.assertIn("__fish_seen_subcommand_from map' -l window -x ", fish)
         self.assertIn(":WHEN:(auto always never)'", zsh)
         self.assertIn("__fish_seen_subcommand_from show' -l color -x -a 'auto always never' ", fish)

@@ -1,6 +1,6 @@
 //! The findings of an archive: those of its headers, names and symbols, and those of its short import objects.
 
-ghost use Rattle.std.specs.Prelude.{◌≡◌, ◌++◌, IfOk, OnOk};
+ghost use Rattle.std.specs.Prelude.{◌≡◌, ◌≢◌, [], ◌++◌, IfOk, OnOk, OnErr};
 ghost use Rattle.std.specs.List.{flat_map};
 ghost use Rattle.std.specs.Option.{option_to_list};
 ghost use Rattle.coff_archive.specs.ArchiveFile.{file_of, is_thin};
@@ -39,7 +39,8 @@ fn import_found(thin: bool, read: Result<Member, Fault>) -> Option<Fault>
 
 /// Adds the findings of an archive's short import objects.
 fn find_imports(archive: &Archive, found: &mut Vec<Fault, Global>) -> Result<(), AllocError>
-    ensures { OnOk result (found.new.items ≡ found.old.items ++ import_findings (is_thin archive.now) (file_of archive.now)) }
+    ensures adds { OnOk result (found.new.items ≡ found.old.items ++ import_findings (is_thin archive.now) (file_of archive.now)) }
+    ensures wants { OnErr result (import_findings (is_thin archive.now) (file_of archive.now) ≢ []) }
 {
     let mut members = archive.members();
     while let Some(read) = members.next() {
@@ -50,9 +51,11 @@ fn find_imports(archive: &Archive, found: &mut Vec<Fault, Global>) -> Result<(),
     Ok(())
 }
 
-/// All findings of an archive: 301 to 306, and then 331 to 333 of its members in file order.
+/// All findings of an archive: 301 to 306, and then 331 to 333 of its members in file order. The error is that no memory is left for
+/// one; it never comes if there is none.
 pub fn archive_findings(alloc: Global, archive: &Archive) -> Result<Vec<Fault, Global>, AllocError>
-    ensures { IfOk result (λ found. found.items ≡ archive_findings_of (is_thin archive.now) (file_of archive.now)) }
+    ensures all { IfOk result (λ found. found.items ≡ archive_findings_of (is_thin archive.now) (file_of archive.now)) }
+    ensures memory { OnErr result (archive_findings_of (is_thin archive.now) (file_of archive.now) ≢ []) }
 {
     let mut found = findings(alloc, archive)?;
     find_imports(archive, &mut found)?;

@@ -12,19 +12,9 @@ ghost use Rattle.coff_archive_json.specs.ArchiveJson.{archive_lines, lines_unles
 use crate::line::write_refused_line;
 use crate::lines::write_archive;
 use coff_archive::open_archive;
+use coff_lines::outcome_by;
 use pe_text::{Outcome, Sink, Source, TextWriter, ToolError, read_whole};
-use pe_view::Fault;
 use std::alloc::Allocator;
-
-/// The outcome for the first fault, if there is one.
-fn outcome_by(fault: Option<Fault>) -> Outcome
-    ensures { result ≡ outcome_by fault }
-{
-    match fault {
-        Some(fault) => Outcome::Refused(fault),
-        None => Outcome::Done,
-    }
-}
 
 /// Adds the lines of an archive's file, or the one that says why it is none.
 fn write_lines<W: Sink>(text: &mut TextWriter<W>, name: &[u8], file: &[u8]) -> Outcome

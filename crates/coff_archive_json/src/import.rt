@@ -1,6 +1,6 @@
 //! What is told of a short import object.
 
-ghost use Rattle.std.specs.Prelude.{◌≡◌, option_map};
+ghost use Rattle.std.specs.Prelude.{option_map};
 ghost use Rattle.coff_archive.specs.ImportView.{import_view};
 ghost use Rattle.coff_lines.specs.ArchiveLines.{kind_name};
 ghost use Rattle.pe_json.specs.Listed.{more};
@@ -8,6 +8,7 @@ ghost use Rattle.pe_text.specs.TextWriter.{IsReady, Adds};
 ghost use Rattle.coff_archive_json.specs.ImportMembers.{text_members, imported_members, type_members, import_row, import_members};
 
 use coff_archive::Import;
+use coff_lines::kind_name;
 use pe_head::machine_name;
 use pe_json::{write_name, write_number, write_quoted, write_text_if};
 use pe_text::{Sink, TextWriter};
@@ -43,18 +44,6 @@ fn write_imported<W: Sink>(text: &mut TextWriter<W>, name: Option<&[u8]>, ordina
             write_number(text, b",\"hint\":", ordinal as u64);
         }
         None => write_number(text, b",\"ordinal\":", ordinal as u64),
-    }
-}
-
-/// What is imported.
-fn kind_name(kind: u8) -> &'static [u8]
-    ensures { result.now ≡ kind_name kind }
-{
-    match kind {
-        0 => b"code",
-        1 => b"data",
-        2 => b"const",
-        _ => b"other",
     }
 }
 

@@ -13,7 +13,7 @@ ghost use Rattle.coff_archive_json.specs.ArchiveJson.{read_line, archive_lines};
 
 use crate::archive_line::write_archive_line;
 use crate::line::write_refused_line;
-use crate::member_line::{first_of, write_member};
+use crate::member_line::write_member;
 use coff_archive::{Archive, Member};
 use pe_text::{Sink, TextWriter};
 use pe_view::Fault;
@@ -50,7 +50,7 @@ fn write_members<W: Sink>(text: &mut TextWriter<W>, name: &[u8], archive: &Archi
     let mut members = archive.members();
     while let Some(read) = members.next() {
         let fault = write_read(text, name, archive, read);
-        first = first_of(first, fault);
+        first = first.or(fault);
     }
     first
 }

@@ -1,7 +1,6 @@
 //! The line of a member: its header, whether it has a fault, and what it holds.
 
 ghost use Rattle.std.specs.Prelude.{◌≡◌, true, Ok, codes, option_map};
-ghost use Rattle.std.specs.Option.{option_or};
 ghost use Rattle.pe_view.specs.Faults.{first_standing};
 ghost use Rattle.coff_archive.specs.ArchiveFile.{file_of, is_thin};
 ghost use Rattle.coff_archive.specs.Front.{names_of};
@@ -14,47 +13,17 @@ ghost use Rattle.pe_json.specs.ObjectLine.{object_members};
 ghost use Rattle.pe_text.specs.TextWriter.{IsReady, Adds};
 ghost use Rattle.coff_archive_json.specs.ImportMembers.{import_members};
 ghost use Rattle.coff_archive_json.specs.Line.{alone};
-ghost use Rattle.coff_archive_json.specs.MemberLine.{header_members, numbers_of, import_refusal, object_refusal, own_refusal, held_members, told, name_tests, member_line};
+ghost use Rattle.coff_archive_json.specs.MemberLine.{header_members, numbers_of, import_refusal, object_refusal, own_refusal, held_members, told, member_line};
 
 use crate::import::write_import;
 use crate::line::{begin, write_first_fault, write_verdict};
 use coff_archive::{Archive, Member, import_object, is_import};
+use coff_lines::{member_fault, name_fault};
 use coff_read::ObjectFile;
 use pe_detail::{Detail, fault_detail};
 use pe_json::{write_name, write_number, write_object_members};
 use pe_text::{Sink, TextWriter};
-use pe_view::{Fault, Place, View};
-
-/// The first of two faults.
-pub(crate) fn first_of(first: Option<Fault>, second: Option<Fault>) -> Option<Fault>
-    ensures { result ≡ option_or first second }
-{
-    match first {
-        Some(fault) => Some(fault),
-        None => second,
-    }
-}
-
-/// A finding of a member whose header stands at an offset.
-fn member_fault(number: u16, offset: u64) -> Fault
-    ensures { result ≡ record { number = number; image = 0; place = Place.File offset } }
-{
-    Fault {
-        number,
-        image: 0,
-        place: Place::File(offset),
-    }
-}
-
-/// Finding 304 of a member, if it stands: its name field leads to no text.
-fn name_fault(archive: &Archive, member: Member) -> Option<Fault>
-    ensures { result ≡ first_standing (name_tests (names_of (is_thin archive.now) (file_of archive.now)) (member_view member.entry)) }
-{
-    if archive.has_name(member) {
-        return None;
-    }
-    Some(member_fault(304, member.offset))
-}
+use pe_view::{Fault, View};
 
 /// Adds the name of a member, if it has one.
 fn write_name_if<W: Sink>(text: &mut TextWriter<W>, name: Option<&[u8]>)
@@ -186,5 +155,5 @@ pub(crate) fn write_member<W: Sink>(
     let refused = write_contents(text, &nameless, archive.is_thin(), member);
     text.text(b"}");
     text.text(b"\n");
-    first_of(nameless, refused)
+    nameless.or(refused)
 }

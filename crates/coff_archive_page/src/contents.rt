@@ -9,8 +9,9 @@ ghost use Rattle.coff_archive.specs.MemberView.{member_view};
 ghost use Rattle.coff_lines.specs.ArchiveLines.{is_refused, contents_tests};
 
 use coff_archive::{Archive, Import, Linker, Member, import_object, is_import};
+use coff_lines::member_fault;
 use coff_read::ObjectFile;
-use pe_view::{Fault, Place};
+use pe_view::Fault;
 
 /// What a member of an archive is.
 #[derive(Clone, Copy)]
@@ -81,17 +82,6 @@ impl Contents<'_> {
 pub(crate) struct CheckedContents<'a> {
     pub contents: Contents<'a>,
     pub fault: Option<Fault>,
-}
-
-/// A finding of a member whose header stands at an offset.
-pub(crate) fn member_fault(number: u16, offset: u64) -> Fault
-    ensures { result ≡ record { number = number; image = 0; place = Place.File offset } }
-{
-    Fault {
-        number,
-        image: 0,
-        place: Place::File(offset),
-    }
 }
 
 /// The import object that bytes hold, or its first finding.

@@ -3,7 +3,7 @@
 ghost use Rattle.pe_text.specs.TextWriter.{IsReady};
 ghost use Rattle.pe_page.specs.Page.{AddsSome};
 
-use pe_page::{blanks, end_style, refusal_style};
+use pe_page::{begin_refusal, blanks, end_refusal, write_kind};
 use pe_text::Part::{Decimal, Text};
 use pe_text::{
     FileKind, Outcome, ShowOptions, Sink, TextWriter, fault_sentence, file_kind, other_kind,
@@ -25,16 +25,6 @@ fn kind_instead(file: &[u8], fault: &Fault) -> Option<FileKind> {
     file_kind(&file[..file.len().min(KIND_BYTES)])
 }
 
-/// Adds what a file is instead, if that is known.
-fn write_kind<W: Sink>(text: &mut TextWriter<W>, kind: Option<FileKind>)
-    requires { IsReady W.failures text.old }
-    ensures { AddsSome W.taken W.failures text.old text.new }
-{
-    if let Some(kind) = kind {
-        write_parts(text, &[Text(b"; "), Text(kind.words().as_bytes())]);
-    }
-}
-
 /// Adds the row of a file's fault, if there is one: `Fault 304: Name of a member at 0x8: it leads to no text`.
 pub(crate) fn write_refusal<W: Sink>(
     text: &mut TextWriter<W>,
@@ -48,20 +38,9 @@ pub(crate) fn write_refusal<W: Sink>(
     let Outcome::Refused(fault) = outcome else {
         return;
     };
-    let sentence = fault_sentence(&fault);
-    write_parts(
-        text,
-        &[
-            Text(b"\n"),
-            refusal_style(options),
-            Text(b"Fault "),
-            Decimal(u64::from(fault.number)),
-            Text(b": "),
-            Text(sentence.as_slice()),
-        ],
-    );
+    begin_refusal(text, options, &fault);
     write_kind(text, kind_instead(file, &fault));
-    write_parts(text, &[end_style(options), Text(b"\n")]);
+    end_refusal(text, options);
 }
 
 /// Adds the row of the fault of what a member holds, if there is one, behind so many blanks; and what that is instead of an object, if

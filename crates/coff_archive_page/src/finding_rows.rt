@@ -4,28 +4,9 @@ ghost use Rattle.pe_text.specs.TextWriter.{IsReady};
 ghost use Rattle.pe_page.specs.Page.{AddsSome};
 
 use crate::members::ShownMember;
-use pe_page::write_heading;
-use pe_text::Part::{Decimal, Text};
-use pe_text::{ShowOptions, Sink, TextWriter, fault_sentence, write_parts};
+use pe_page::{write_finding, write_heading};
+use pe_text::{ShowOptions, Sink, TextWriter};
 use pe_view::Fault;
-
-/// Adds the row of a finding: its number, and its words.
-fn write_finding<W: Sink>(text: &mut TextWriter<W>, finding: &Fault)
-    requires { IsReady W.failures text.old }
-    ensures { AddsSome W.taken W.failures text.old text.new }
-{
-    let sentence = fault_sentence(finding);
-    write_parts(
-        text,
-        &[
-            Text(b"  "),
-            Decimal(u64::from(finding.number)),
-            Text(b"  "),
-            Text(sentence.as_slice()),
-            Text(b"\n"),
-        ],
-    );
-}
 
 /// Adds a row for each finding. After a failed write there are no more.
 fn write_each<W: Sink>(text: &mut TextWriter<W>, findings: &[Fault])

@@ -22,7 +22,6 @@ mod machine_cells;
 mod member_rows;
 mod member_symbols;
 mod members;
-mod outcome;
 mod page_rows;
 mod shown_archive;
 mod symbol_rows;

@@ -1,17 +1,15 @@
 //! The members of an archive, each checked once.
 
-ghost use Rattle.std.specs.Prelude.{◌≡◌, [], ◌∷◌, Ok, IfOk, is_none};
+ghost use Rattle.std.specs.Prelude.{◌≡◌, Ok, IfOk};
 ghost use Rattle.pe_view.specs.Faults.{first_standing};
 ghost use Rattle.coff_archive.specs.ArchiveFile.{file_of, is_thin};
 ghost use Rattle.coff_archive.specs.Front.{names_of};
-ghost use Rattle.coff_archive.specs.Members.{at_offset};
 ghost use Rattle.coff_archive.specs.MemberView.{member_view, read_view};
-ghost use Rattle.coff_archive.specs.Names.{name_of};
 ghost use Rattle.coff_lines.specs.ArchiveLines.{read_tests, archive_fault};
 
-use crate::contents::{Contents, check_contents, member_fault};
-use crate::outcome::first_of;
+use crate::contents::{Contents, check_contents};
 use coff_archive::{Archive, Member};
+use coff_lines::name_fault;
 use pe_view::Fault;
 use std::alloc::{AllocError, Allocator};
 
@@ -36,16 +34,6 @@ pub(crate) struct CheckedMembers<'a, A: Allocator> {
     pub fault: Option<Fault>,
 }
 
-/// Finding 304 of a member, if it stands: its name field leads to no text.
-fn name_fault(archive: &Archive, member: Member) -> Option<Fault>
-    ensures { result ≡ first_standing (at_offset 304 member.entry.offset (is_none (name_of (names_of (is_thin archive.now) (file_of archive.now)) (member_view member.entry))) ∷ []) }
-{
-    if archive.has_name(member) {
-        return None;
-    }
-    Some(member_fault(304, member.offset))
-}
-
 /// Checks the member of an index.
 fn check_member<'a>(archive: &Archive, index: usize, member: Member<'a>) -> CheckedMember<'a>
     ensures { result.fault ≡ first_standing (read_tests (is_thin archive.now) (names_of (is_thin archive.now) (file_of archive.now)) (Ok (member_view member.entry))) }
@@ -57,7 +45,7 @@ fn check_member<'a>(archive: &Archive, index: usize, member: Member<'a>) -> Chec
             member,
             contents: checked.contents,
         },
-        fault: first_of(nameless, checked.fault),
+        fault: nameless.or(checked.fault),
     }
 }
 
@@ -92,7 +80,7 @@ pub(crate) fn check_members<'a, A: Allocator>(
     let mut walk = archive.members();
     while let Some(read) = walk.next() {
         let fault = add_read(archive, &mut members, read)?;
-        first = first_of(first, fault);
+        first = first.or(fault);
     }
     Ok(CheckedMembers {
         members,

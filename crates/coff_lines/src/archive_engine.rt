@@ -1,26 +1,16 @@
 //! `dump_archive`: the engine of `petool archive`, which writes an archive's dump.
 
-ghost use Rattle.std.specs.Prelude.{◌≡◌, ◌-◌, ◌^◌, ◌<◌, ◌↔◌, length, IsErrOf};
+ghost use Rattle.std.specs.Prelude.{◌-◌, ◌^◌, ◌<◌, ◌↔◌, length, IsErrOf};
 ghost use Rattle.pe_text.specs.Engine.{Puts, Ran};
 ghost use Rattle.coff_lines.specs.ArchiveLines.{IsArchiveText, outcome_by};
 
 use crate::archive_lines::write_archive;
+use crate::member_faults::outcome_by;
 use coff_archive::open_archive;
 use pe_text::{
     Outcome, Report, Sink, Source, TextWriter, ToolError, refuse, run_report, write_report,
 };
-use pe_view::Fault;
 use std::alloc::{AllocError, Allocator};
-
-/// The outcome for the first fault, if there is one.
-fn outcome_by(fault: Option<Fault>) -> Outcome
-    ensures { result ≡ outcome_by fault }
-{
-    match fault {
-        Some(fault) => Outcome::Refused(fault),
-        None => Outcome::Done,
-    }
-}
 
 /// The report of [`dump_archive`]: the dump of an archive, or why the file is refused as a whole.
 struct DumpArchive;

@@ -1,40 +1,29 @@
 //! The lines of an archive's dump: its members, and what each of them holds.
 
-ghost use Rattle.std.specs.Prelude.{◌≡◌, [], ◌∷◌, true, Ok, option_map, is_none};
+ghost use Rattle.std.specs.Prelude.{◌≡◌, true, Ok, option_map};
 ghost use Rattle.pe_head.specs.Names.{name_in, machine_names};
 ghost use Rattle.std.specs.List.{flat_map};
-ghost use Rattle.std.specs.Option.{option_or};
 ghost use Rattle.pe_view.specs.Faults.{first_standing};
 ghost use Rattle.coff_archive.specs.ArchiveFile.{file_of, is_thin};
 ghost use Rattle.coff_archive.specs.Front.{names_of};
 ghost use Rattle.coff_archive.specs.Imports.{is_import, import_tests, import_of};
 ghost use Rattle.coff_archive.specs.ImportView.{import_view};
-ghost use Rattle.coff_archive.specs.Members.{members, at_offset};
+ghost use Rattle.coff_archive.specs.Members.{members};
 ghost use Rattle.coff_archive.specs.MemberView.{member_view, read_view};
-ghost use Rattle.coff_archive.specs.Names.{name_of};
 ghost use Rattle.coff_read.specs.ObjectFaults.{object_tests};
 ghost use Rattle.coff_read.specs.Reading.{object_of};
 ghost use Rattle.coff_lines.specs.ArchiveLines.{lines_or, line_of, name_words, member_line, imported_words, kind_name, import_line, is_refused, contents_tests, contents_text, read_tests, read_text, kind_line, archive_lines, archive_fault};
 ghost use Rattle.coff_lines.specs.ObjectLines.{object_text};
 ghost use Rattle.pe_text.specs.TextWriter.{IsReady, Adds};
 
+use crate::member_faults::{member_fault, name_fault};
 use crate::object_lines::{write_name as write_type_name, write_object};
 use coff_archive::{Archive, Import, Member, import_object, is_import};
 use coff_read::ObjectFile;
 use pe_head::machine_name;
 use pe_text::Part::{Decimal, Hex8, Quoted, Text};
 use pe_text::{Sink, TextWriter, write_fault_line, write_parts};
-use pe_view::{Fault, Place};
-
-/// The first of two faults.
-fn first_of(first: Option<Fault>, second: Option<Fault>) -> Option<Fault>
-    ensures { result ≡ option_or first second }
-{
-    match first {
-        Some(fault) => Some(fault),
-        None => second,
-    }
-}
+use pe_view::Fault;
 
 /// Adds the name of a member, or that it has none.
 fn write_name<W: Sink>(line: &mut TextWriter<W>, name: Option<&[u8]>)
@@ -90,7 +79,7 @@ fn write_imported<W: Sink>(line: &mut TextWriter<W>, name: Option<&[u8]>, ordina
 }
 
 /// What is imported.
-fn kind_name(kind: u8) -> &'static [u8]
+pub fn kind_name(kind: u8) -> &'static [u8]
     ensures { result.now ≡ kind_name kind }
 {
     match kind {
@@ -141,17 +130,6 @@ fn write_import_of<W: Sink>(text: &mut TextWriter<W>, bytes: &[u8], offset: u64)
     }
 }
 
-/// A finding of a member whose header stands at an offset.
-fn member_fault(number: u16, offset: u64) -> Fault
-    ensures { result ≡ record { number = number; image = 0; place = Place.File offset } }
-{
-    Fault {
-        number,
-        image: 0,
-        place: Place::File(offset),
-    }
-}
-
 /// Adds the dump of the object that bytes hold, or the line of its first fault, and tells whether there is one.
 fn write_object_of<W: Sink>(text: &mut TextWriter<W>, bytes: &[u8]) -> bool
     requires { IsReady W.failures text.old }
@@ -194,16 +172,6 @@ fn write_contents<W: Sink>(text: &mut TextWriter<W>, thin: bool, member: Member)
     None
 }
 
-/// Finding 304 of a member, if it stands: its name field leads to no text.
-fn name_fault(archive: &Archive, member: Member) -> Option<Fault>
-    ensures { result ≡ first_standing (at_offset 304 member.entry.offset (is_none (name_of (names_of (is_thin archive.now) (file_of archive.now)) (member_view member.entry))) ∷ []) }
-{
-    if archive.has_name(member) {
-        return None;
-    }
-    Some(member_fault(304, member.offset))
-}
-
 /// Adds the line of a fault, if there is one.
 fn write_fault_if<W: Sink>(text: &mut TextWriter<W>, fault: &Option<Fault>)
     requires { IsReady W.failures text.old }
@@ -228,7 +196,7 @@ fn write_whole_member<W: Sink>(
     write_member(text, archive, member);
     write_fault_if(text, &nameless);
     let refused = write_contents(text, archive.is_thin(), member);
-    first_of(nameless, refused)
+    nameless.or(refused)
 }
 
 /// Adds what a walk over the members reads. The result is its first fault.
@@ -260,7 +228,7 @@ fn write_members<W: Sink>(text: &mut TextWriter<W>, archive: &Archive) -> Option
     let mut members = archive.members();
     while let Some(read) = members.next() {
         let fault = write_read(text, archive, read);
-        first = first_of(first, fault);
+        first = first.or(fault);
     }
     first
 }

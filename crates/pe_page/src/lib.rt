@@ -6,6 +6,7 @@
 
 mod cell;
 mod date;
+mod fault_rows;
 mod file_sections;
 mod flags;
 mod heading;
@@ -21,6 +22,7 @@ pub use cell::{
     Cell, NOTHING, blanks, count_width, decimal_width, plural, write_cells, write_column,
     write_right,
 };
+pub use fault_rows::{begin_refusal, end_refusal, write_finding, write_kind};
 pub use file_sections::{read_sections, sizes_of};
 pub use flags::{FlagRow, permissions};
 pub use heading::{Kind, Page, write_heading, write_plain_heading, write_title};
@@ -31,5 +33,4 @@ pub use name::{
 };
 pub use outcome::outcome_of;
 pub use place::{SectionNames, SectionPlace};
-pub use style::{end_style, refusal_style};
 pub use symbol_names::SymbolNames;

@@ -9,7 +9,7 @@ pub(crate) fn heading_style(options: &ShowOptions) -> Part<'static> {
 }
 
 /// The beginning of a refusal.
-pub fn refusal_style(options: &ShowOptions) -> Part<'static> {
+pub(crate) fn refusal_style(options: &ShowOptions) -> Part<'static> {
     Text(if options.is_coloured {
         b"\x1b[1;31m"
     } else {
@@ -18,6 +18,6 @@ pub fn refusal_style(options: &ShowOptions) -> Part<'static> {
 }
 
 /// The end of either.
-pub fn end_style(options: &ShowOptions) -> Part<'static> {
+pub(crate) fn end_style(options: &ShowOptions) -> Part<'static> {
     Text(if options.is_coloured { b"\x1b[0m" } else { b"" })
 }

@@ -2,9 +2,8 @@
 
 use crate::input::{InputFile, name_of, open_file};
 use crate::messages::{refuse_memory, refuse_path, tell_failure, tell_fault};
-use crate::new_file::{refuse_target, refuse_word, target_name};
+use crate::new_file::{print_refusal, refuse_target, refuse_word, target_name};
 use crate::target::Target;
-use crate::texts::{Text, print_text};
 use crate::word_bytes::bytes_of;
 use pe_tool::{
     Counted, NewMember, Outcome, ToolError, create_archive, read_whole, size_fault, status,
@@ -133,10 +132,7 @@ fn tell_refusal<R: Files + Print + Eprint + Alloc>(
 where
     R::A: Copy,
 {
-    if target != "-" {
-        let text: Text<'_, R::File> = Text::Refusal(fault);
-        let _ = print_text(rt, text);
-    }
+    print_refusal(rt, target, fault);
     let path = match fault.place {
         Place::Item(index) => files.get(index as usize).map_or("", |file| file.as_str()),
         _ => "",

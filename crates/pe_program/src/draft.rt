@@ -1,14 +1,19 @@
 //! `Draft`: a file that is written beside the one that it replaces.
 
+ghost use Rattle.std.specs.Prelude.{◌≤◌, length, IfOk};
+
 use std::alloc::Allocator;
 use std::fs::{self, File, Metadata, OpenFile, OpenOptions, Permissions};
-use std::io::{self, Error, ErrorKind, Write};
+use std::io::{self, Error, ErrorKind, Seek, SeekFrom, Write};
 use std::os::unix::fs::{MetadataExt, PermissionsExt, chown};
 use std::path::{Path, PathBuf};
 use std::rt::Files;
 
 /// How many names are tried for a draft.
 const DRAFT_NAMES: u32 = 100;
+
+/// As many zero bytes as a piece may have that is left out of the file.
+static ZEROS: [u8; 1 << 12] = [0; 1 << 12];
 
 /// The file in which Linux lists the limits of a process, and what the line of the size of files begins with.
 const LIMITS: &str = "/proc/self/limits";
@@ -26,6 +31,15 @@ pub(crate) struct Draft<F, A: Allocator> {
     place: PathBuf<A>,
     /// How many bytes may still be written.
     left: u64,
+    /// How many bytes it has so far.
+    len: u64,
+    /// Whether its last bytes, which are 0, are not written: a hole, for which a file system that can keeps no blocks.
+    ends_in_hole: bool,
+}
+
+/// Whether a piece is left out: it has no byte but 0.
+fn is_hole(bytes: &[u8]) -> bool {
+    !bytes.is_empty() && bytes.len() <= ZEROS.len() && bytes == &ZEROS[..bytes.len()]
 }
 
 /// Whether the file at a place may be written, or why not: a file that is protected is not replaced either. None may be there.
@@ -86,7 +100,7 @@ fn size_limit<R: Files + Alloc>(rt: &R) -> u64 {
     limits.lines().find_map(limit_in).unwrap_or(u64::MAX)
 }
 
-impl<F: Write + OpenFile + Drop, A: Allocator> Draft<F, A> {
+impl<F: Write + Seek + OpenFile + Drop, A: Allocator> Draft<F, A> {
     /// Makes a draft for a place, with the permissions of the file there.
     pub fn new<R: Files<File = F> + Alloc<A = A>>(
         rt: &R,
@@ -99,6 +113,8 @@ impl<F: Write + OpenFile + Drop, A: Allocator> Draft<F, A> {
             path,
             place,
             left: size_limit(rt),
+            len: 0,
+            ends_in_hole: false,
         };
         match draft.keep_permissions(rt) {
             Ok(()) => Ok(draft),
@@ -124,6 +140,9 @@ impl<F: Write + OpenFile + Drop, A: Allocator> Draft<F, A> {
 
     /// Puts it in its place, once the system has stored its bytes.
     fn put(&self, rt: &impl Files) -> io::Result<()> {
+        if self.ends_in_hole {
+            self.file.set_len(self.len)?;
+        }
         self.file.sync_all()?;
         fs::rename(rt, self.path.as_path(), self.place.as_path())
     }
@@ -138,13 +157,31 @@ impl<F: Write + OpenFile + Drop, A: Allocator> Draft<F, A> {
     }
 }
 
-impl<F: Write, A: Allocator> Write for Draft<F, A> {
+impl<F: Write + Seek, A: Allocator> Draft<F, A> {
+    /// Writes bytes after those that it has, or leaves out a piece of zero bytes.
+    fn write_next(&mut self, bytes: &[u8]) -> io::Result<usize>
+        ensures { IfOk result (λ count. count ≤ length bytes.now) }
+    {
+        if is_hole(bytes) {
+            self.ends_in_hole = true;
+            return Ok(bytes.len());
+        }
+        if self.ends_in_hole {
+            self.file.seek(SeekFrom::Start(self.len))?;
+            self.ends_in_hole = false;
+        }
+        self.file.write(bytes)
+    }
+}
+
+impl<F: Write + Seek, A: Allocator> Write for Draft<F, A> {
     fn write(&mut self, bytes: &[u8]) -> io::Result<usize> {
         if bytes.len() as u64 > self.left {
             return Err(Error::from_raw_os_error(FILE_TOO_LARGE));
         }
-        let count = self.file.write(bytes)?;
+        let count = self.write_next(bytes)?;
         self.left = self.left.saturating_sub(count as u64);
+        self.len = self.len.saturating_add(count as u64);
         Ok(count)
     }
 

@@ -18,6 +18,7 @@ mod file_job;
 mod headed;
 mod import_fault;
 mod input;
+mod layout_job;
 mod map_job;
 mod messages;
 mod new_file;

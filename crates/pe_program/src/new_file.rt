@@ -2,8 +2,10 @@
 
 use crate::messages::{STANDARD_OUTPUT, tell_failure};
 use crate::statuses::{DEVICE_FAILED, OUT_OF_MEMORY};
+use crate::texts::{Text, print_text};
 use crate::word_bytes::{bytes_of, is_marked};
 use pe_tool::{ShownName, ToolError};
+use pe_view::Fault;
 use std::alloc::{AllocError, Allocator};
 use std::borrow::CowSlice;
 use std::fs;
@@ -58,6 +60,17 @@ pub(crate) fn refuse_word(
     let name = ShownName(name);
     let _ = eprintln!(rt; "petool: {name}: {reason}");
     Some(DEVICE_FAILED)
+}
+
+/// Prints the line of the fault by which there is no new file, unless standard output would have the file.
+pub(crate) fn print_refusal<R: Files + Print + Alloc>(rt: &R, target: &str, fault: Fault)
+where
+    R::A: Copy,
+{
+    if target != "-" {
+        let text: Text<'_, R::File> = Text::Refusal(fault);
+        let _ = print_text(rt, text);
+    }
 }
 
 /// Reports that the new file could not be written, and returns the exit status.

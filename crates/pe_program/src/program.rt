@@ -6,6 +6,7 @@ use crate::creation::run_creation;
 use crate::explain::run_explain;
 use crate::extraction::{Part, run_extraction};
 use crate::file_job::{run_file, run_files};
+use crate::layout_job::run_layout;
 use crate::map_job::{run_map, run_map_unbound};
 use crate::rebase_job::{NewFile, run_rebase};
 use crate::resource_job::run_resource;
@@ -154,6 +155,13 @@ pub fn run<R: Files + Input + Env + Print + Eprint + AllocGlobal>(rt: &R, is_ter
                 files,
             },
         ) => run_map_unbound(rt, policy, window, &files),
+        Ok(
+            Job::Layout {
+                most,
+                source,
+                target,
+            },
+        ) => run_layout(rt, most, source.as_str(), target.as_str()),
         Ok(
             Job::Rebase {
                 base,

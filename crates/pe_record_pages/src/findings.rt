@@ -8,11 +8,11 @@ use crate::trust::TrustFindings;
 use pe_head::directory_index;
 use pe_layout::Layout;
 use pe_page::Cell::{self, Plain};
-use pe_page::{plural, write_cells, write_heading};
+use pe_page::{plural, write_cells, write_finding, write_heading};
 use pe_reach::ViewFile;
 use pe_records::{DebugEntry, Records};
-use pe_text::Part::{Decimal, Text};
-use pe_text::{ShowOptions, Sink, TextWriter, fault_sentence, write_parts};
+use pe_text::Part::Text;
+use pe_text::{ShowOptions, Sink, TextWriter};
 use pe_view::{Fault, Place};
 use std::alloc::Allocator;
 
@@ -97,24 +97,6 @@ pub(crate) fn write_mark<W: Sink>(text: &mut TextWriter<W>, image: &ShownImage, 
             Plain(Text(b", ")),
             Cell::Count(count as u64),
             plural(count, b" finding\n", b" findings\n"),
-        ],
-    );
-}
-
-/// Adds the row of a finding: its number, and its words.
-fn write_finding<W: Sink>(text: &mut TextWriter<W>, finding: &Fault)
-    requires { IsReady W.failures text.old }
-    ensures { AddsSome W.taken W.failures text.old text.new }
-{
-    let sentence = fault_sentence(finding);
-    write_parts(
-        text,
-        &[
-            Text(b"  "),
-            Decimal(u64::from(finding.number)),
-            Text(b"  "),
-            Text(sentence.as_slice()),
-            Text(b"\n"),
         ],
     );
 }

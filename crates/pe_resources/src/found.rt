@@ -109,7 +109,7 @@ impl<A: Allocator + Copy> Found<A> {
     }
 
     /// Asks findings 182, 185 and 189 of the directory at an offset, and tells how many entries it has where it is entered.
-    #[inline]
+    #[inline(always)]
     pub fn enter(&mut self, section: Section, offset: u32) -> Result<Option<u32>, AllocError>
         requires some { AreSome self.old }
         requires small { section.start ≤ 2 ^ 31 }

@@ -4,10 +4,10 @@ ghost use Rattle.pe_text.specs.TextWriter.{IsReady};
 ghost use Rattle.pe_page.specs.Page.{AddsSome};
 
 use pe_detail::{Amount, DetailPart, DetailText};
-use pe_page::{end_style, refusal_style};
+use pe_page::{begin_refusal, end_refusal, write_kind};
 use pe_reach::ViewFile;
 use pe_text::Part::{self, Decimal, Hex, Text};
-use pe_text::{Outcome, ShowOptions, Sink, TextWriter, fault_sentence, write_parts};
+use pe_text::{Outcome, ShowOptions, Sink, TextWriter, write_parts};
 use pe_view::Fault;
 
 /// Words, and the number after them.
@@ -35,16 +35,6 @@ fn write_detail<W: Sink>(text: &mut TextWriter<W>, file: ViewFile, fault: &Fault
     write_parts(text, &amount_parts(third));
 }
 
-/// Adds what a refused file is instead, if its first bytes show that it is no file of the kind that was tested.
-fn write_kind<W: Sink>(text: &mut TextWriter<W>, file: ViewFile, fault: &Fault)
-    requires { IsReady W.failures text.old }
-    ensures { AddsSome W.taken W.failures text.old text.new }
-{
-    if let Some(kind) = file.other_kind(fault) {
-        write_parts(text, &[Text(b"; "), Text(kind.words().as_bytes())]);
-    }
-}
-
 /// Adds the row of a file's fault, if there is one: `Fault 13: section header at 0x138: the section's raw data extends past the
 /// end of the file: 16 bytes at 0x200, and the file has 520`.
 pub(crate) fn write_refusal<W: Sink>(
@@ -59,19 +49,8 @@ pub(crate) fn write_refusal<W: Sink>(
     let Outcome::Refused(fault) = outcome else {
         return;
     };
-    let sentence = fault_sentence(&fault);
-    write_parts(
-        text,
-        &[
-            Text(b"\n"),
-            refusal_style(options),
-            Text(b"Fault "),
-            Decimal(u64::from(fault.number)),
-            Text(b": "),
-            Text(sentence.as_slice()),
-        ],
-    );
+    begin_refusal(text, options, &fault);
     write_detail(text, file, &fault);
-    write_kind(text, file, &fault);
-    write_parts(text, &[end_style(options), Text(b"\n")]);
+    write_kind(text, file.other_kind(&fault));
+    end_refusal(text, options);
 }

@@ -301,11 +301,11 @@ static RULES: [(u16, &str, &str); 72] = [
     ),
     (84, "object", "its file would have more than 2^32 - 1 bytes"),
     (85, "object", "a part of it does not fit the format"),
-    (91, "archive", "it has more than 65,535 members"),
+    (91, "member", "the archive has more than 65,535 members"),
     (
         92,
-        "name",
-        "the name of the member is empty, has a zero byte or a line end in it, or ends in /",
+        "member",
+        "its name is empty, has a zero byte or a line end in it, or ends in /",
     ),
     (93, "member", "it ends past 2^32 - 1 bytes of the archive"),
 ];

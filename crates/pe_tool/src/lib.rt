@@ -33,6 +33,7 @@ pub use object_sized::dump_object_sized;
 pub use pe_at::{Spot, at, at_each, at_each_sized, at_each_text, at_sized};
 pub use pe_detail::{Detail, DetailText, fault_detail};
 pub use pe_json::{Beyond, json, json_parts, json_sized, print_line};
+pub use pe_layout_file::{ImageFile, lay_out, lay_out_file};
 pub use pe_lines::{
     check, check_parts, check_sized, check_text, dump, dump_parts, dump_sized, dump_text, sum,
     sum_sized, sum_text,

@@ -3,6 +3,7 @@
 use crate::at_words::{at_command, explain_command};
 use crate::builders::{new_command, with_subcommand};
 use crate::file_words::{FILE_COMMANDS, FileCommand, file_command, show_command};
+use crate::layout_words::layout_command;
 use crate::map_words::map_command;
 use crate::rebase_words::rebase_command;
 use crate::resource_words::resource_command;
@@ -28,7 +29,7 @@ Exit statuses:
   4  out of memory
   5  a text was cut, by --most
 
-check, dump, object, archive, at, resource, map and rebase print a fault as a line, and explain it on standard error;
+check, dump, object, archive, at, resource, map, layout and rebase print a fault as a line, and explain it on standard error;
 show and json print it in words. petool explain N explains fault N.";
 
 /// The program with its help.
@@ -61,6 +62,7 @@ pub(crate) fn command_named<'a>(
         "show" => Some(show_command(alloc)),
         "at" => Some(at_command(alloc)),
         "map" => Some(map_command(alloc)),
+        "layout" => Some(layout_command(alloc)),
         "rebase" => Some(rebase_command(alloc)),
         "explain" => Some(explain_command(alloc)),
         "resource" => Some(resource_command(alloc)),
@@ -80,6 +82,7 @@ fn whole_command<'a>(alloc: Global) -> Result<Command<'a>, AllocError> {
     let command = with_subcommand(command, at_command(alloc));
     let command = with_subcommand(command, resource_command(alloc));
     let command = with_subcommand(command, map_command(alloc));
+    let command = with_subcommand(command, layout_command(alloc));
     let command = with_subcommand(command, rebase_command(alloc));
     with_subcommand(command, explain_command(alloc))
 }

@@ -6,7 +6,7 @@ ghost use Rattle.pe_words.specs.Colours.{colour_word, colours_named, IsShow};
 use crate::archive_words::{archive_job, with_member_options};
 use crate::builders::{argument, flag, new_command, required_argument, with_argument};
 use crate::job::{Colours, Job, JsonOptions};
-use crate::word_values::{BadValue, NoJob, size_of};
+use crate::word_values::{BadValue, NoJob, byte_count};
 use clap::{Arg, ArgAction, ArgMatches, Command};
 use pe_text::ShowOptions;
 use std::alloc::{AllocError, Global};
@@ -277,16 +277,9 @@ fn colours_of<'a>(found: &ArgMatches<'a>) -> Result<Colours, BadValue<'a>>
 
 /// The number of bytes given by `--most`, if any.
 fn most_of<'a>(found: &ArgMatches<'a>) -> Result<Option<u64>, BadValue<'a>> {
-    let Some(value) = found.get_str("most") else {
-        return Ok(None);
-    };
-    match size_of(value) {
-        Some(size) => Ok(Some(size)),
-        None => Err(BadValue {
-            value,
-            argument: "--most <BYTES>",
-            reason: "not a number of bytes, such as 65536 or 64K",
-        }),
+    match found.get_str("most") {
+        Some(value) => Ok(Some(byte_count(value, "--most <BYTES>")?)),
+        None => Ok(None),
     }
 }
 

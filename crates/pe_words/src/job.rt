@@ -135,6 +135,14 @@ pub enum Job<P> {
         /// The path of the new file.
         target: String,
     },
+    /// `layout IN OUT`: write the laid-out image of a file, if it has at most this many bytes.
+    Layout {
+        most: u64,
+        /// The path of the image's file.
+        source: String,
+        /// The path of the new file.
+        target: String,
+    },
     /// `map HEX=FILE...`: map images at their bases, and write the bases, the bindings of their slots, and the bytes of a window,
     /// given by the address of its first byte and its length.
     Map {

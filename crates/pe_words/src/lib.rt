@@ -19,6 +19,7 @@ mod builders;
 mod commands;
 mod file_words;
 mod job;
+mod layout_words;
 mod map_words;
 mod rebase_words;
 mod resource_words;

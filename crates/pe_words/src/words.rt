@@ -6,6 +6,7 @@ use crate::at_words::{at_command, explain_command, number_of, places_of};
 use crate::commands::{command, command_named};
 use crate::file_words::{file_job, file_of, usage_of};
 use crate::job::{Job, WordsError};
+use crate::layout_words::{layout_command, most_of};
 use crate::map_words::{MapWords, map_command, map_words};
 use crate::rebase_words::{base_of, rebase_command};
 use crate::resource_words::resource_job;
@@ -91,6 +92,18 @@ fn rebase_job<P: Copy>(alloc: Global, found: &ArgMatches<'_>) -> Result<Job<P>, 
     }
 }
 
+/// The job of the words of `layout`.
+fn layout_job<P: Copy>(alloc: Global, found: &ArgMatches<'_>) -> Result<Job<P>, WordsError> {
+    match most_of(found) {
+        Ok(most) => Ok(Job::Layout {
+            most,
+            source: file_of(alloc, found, "IN")?,
+            target: file_of(alloc, found, "OUT")?,
+        }),
+        Err(bad) => Err(value_refusal(alloc, layout_command(alloc)?, "petool layout", bad)),
+    }
+}
+
 /// The job of the words of `at`.
 fn at_job<P: Copy>(alloc: Global, found: &ArgMatches<'_>) -> Result<Job<P>, WordsError> {
     match places_of(alloc, found) {
@@ -151,6 +164,7 @@ fn job_of<P: Copy>(
 ) -> Result<Job<P>, WordsError> {
     match name {
         "map" => map_job(alloc, found, strict, known),
+        "layout" => layout_job(alloc, found),
         "rebase" => rebase_job(alloc, found),
         "at" => at_job(alloc, found),
         "explain" => explain_job(alloc, found),

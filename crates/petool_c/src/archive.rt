@@ -114,7 +114,8 @@ pub extern "C" fn petool_archive_import<'a>(
 /// read: `petool_object_check` says whether one has a fault.
 ///
 /// The status is 0; 4 if there are more findings than rows, which then hold the first of them; 1 with fault 1 or 300; or 2, out of
-/// memory, which comes only if the file has neither. The count is that of all findings; 1 and 2 leave it and the rows unchanged.
+/// memory, which comes only if the file has neither and a finding stands. The count is that of all findings; 1 and 2 leave it and the
+/// rows unchanged.
 #[unsafe(no_mangle)]
 pub extern "C" fn petool_archive_findings(
     alloc: Global,

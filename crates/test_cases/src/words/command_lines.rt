@@ -155,6 +155,11 @@ fn print_job<R: Print>(rt: &R, job: &Job) -> Option<()> {
             window,
             files,
         } => print_map_unbound(rt, *policy, *window, files),
+        Job::Layout {
+            most,
+            source,
+            target,
+        } => println!(rt; "layout {source} {target} within {most}").ok(),
         Job::Rebase {
             base,
             check_sum,

@@ -32,7 +32,7 @@ loop-read-preserved g c =
     let names = names_of (is_thin a) (file_of a) in
     let i = c.loop-read.invariant in
     record {
-      fault = first_more (read_tests (is_thin a) names) (read_view c.in-Some.read) _ _ c.loop-read.first c.write_read-fault.result _ _ c.in-Some.ensures.steps c.first_of-first.ensures c.write_read-fault.ensures.fault i.fault;
+      fault = first_more (read_tests (is_thin a) names) (read_view c.in-Some.read) _ _ c.loop-read.first c.write_read-fault.result _ _ c.in-Some.ensures.steps c.or-first.ensures c.write_read-fault.ensures.fault i.fault;
       text = (_, i.text.1 then c.write_read-fault.ensures.adds, text_more (read_line c.args.name.now (is_thin a) names) (read_view c.in-Some.read) _ _ i.text.0 _ c.in-Some.ensures.steps i.text.2);
     }
 

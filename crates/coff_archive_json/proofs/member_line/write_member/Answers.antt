@@ -19,7 +19,7 @@ returns-clause-fault g c =
     let m = member_view c.args.member in
     let tests = name_tests (names_of (is_thin a) (file_of a)) m in
     let refused : c.write_contents-refused.result ≡ first_standing (contents_tests (is_thin a) m) = rw c.is_thin.ensures at c.write_contents-refused.ensures.fault in
-    c.first_of.ensures
+    c.or.ensures
     ∙ ap (λ (f : Option Fault). option_or f c.write_contents-refused.result) c.name_fault-nameless.ensures
     ∙ ap (λ (f : Option Fault). option_or (first_standing tests) f) refused
     ∙ sym (first-append tests (contents_tests (is_thin a) m))

@@ -18,7 +18,7 @@ returns c =
     let a = c.args.archive.now in
     let m = member_view c.args.member in
     let nameless : Test = at_offset 304 m.offset (is_none (name_of (names_of (is_thin a) (file_of a)) m)) in
-    c.first_of.ensures
+    c.or.ensures
     ∙ ap (λ (f : Option Fault). option_or f c.check_contents-checked.result.fault) c.name_fault-nameless.ensures
     ∙ ap (λ (f : Option Fault). option_or (first_standing (nameless ∷ [])) f) c.check_contents-checked.ensures
     ∙ sym (first-append (nameless ∷ []) (contents_tests (is_thin a) m))

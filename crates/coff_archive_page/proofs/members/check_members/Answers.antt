@@ -21,7 +21,7 @@ pub loop-read-preserved : goal.loop-read-preserved
 loop-read-preserved g c =
     let a = c.args.archive.now in
     let names = names_of (is_thin a) (file_of a) in
-    first_more (read_tests (is_thin a) names) (read_view c.in-Some.read) _ _ c.loop-read.first c.in_ok-fault.fault _ (first_standing (flat_map (read_tests (is_thin a) names) (members (is_thin a) (file_of a)))) c.in-Some.ensures.steps c.first_of-first.ensures c.in_ok-fault.ensures c.loop-read.invariant
+    first_more (read_tests (is_thin a) names) (read_view c.in-Some.read) _ _ c.loop-read.first c.in_ok-fault.fault _ (first_standing (flat_map (read_tests (is_thin a) names) (members (is_thin a) (file_of a)))) c.in-Some.ensures.steps c.or-first.ensures c.in_ok-fault.ensures c.loop-read.invariant
 
 pub returns : goal.returns
 unfolding archive_fault

@@ -1,0 +1,4 @@
+mod Bytes
+mod Rows
+mod Sections
+mod Writing

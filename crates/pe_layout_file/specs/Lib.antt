@@ -1,0 +1,2 @@
+pub mod ImageFile
+pub mod Pieces
