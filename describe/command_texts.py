@@ -30,6 +30,7 @@ PURPOSES = {
 OPTIONS = {
     "all": ("file_words.rt", r"const ALL: &str =\s+"),
     "functions": ("file_words.rt", r"const FUNCTIONS: &str =\s+"),
+    "symbols": ("file_words.rt", r"const SYMBOLS: &str =\s+"),
     "no-digest": ("file_words.rt", r"const NO_DIGEST: &str =\s+"),
     "color": ("file_words.rt", r"const COLOR: &str =\s+"),
     "most": ("file_words.rt", r"const MOST: &str =\s+"),

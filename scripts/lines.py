@@ -18,9 +18,11 @@ import sys
 sys.dont_write_bytecode = True
 
 from pages import changed, fault_words, read  # noqa: E402
+from pages_delayed import DELAY  # noqa: E402
 from pages_names import DIRECTORIES, DLL_FLAGS, IMAGE_FLAGS, MACHINES, SECTION_FLAGS, SUBSYSTEMS  # noqa: E402
 from pages_reader import Headers, Image, Refused, is_object, uint  # noqa: E402
 from pages_resources import TEXT, utf8, value_text  # noqa: E402
+from pages_symbols import ImageSymbols  # noqa: E402
 from pages_tables import BOUND, CLR, DEBUG, EXCEPTION, LOAD, LOAD_FIELDS, TLS, TYPES, Tables  # noqa: E402
 from pages_trust import ALGORITHMS, Trust, common_name, import_hash, overlay, signed_digest, signers  # noqa: E402
 
@@ -115,6 +117,11 @@ def fixup_row(field, kind):
     return {"rva": field, **({"kind": {1: "high", 2: "low"}[kind]} if kind in (1, 2) else {"bits": 64 if kind == 10 else 32})}
 
 
+def import_row(row):
+    module, slot, key = row
+    return {**named("module", module), **keyed(key), "slot": slot}
+
+
 def table_members(image):
     """The tables that were read."""
     tables = {}
@@ -124,7 +131,7 @@ def table_members(image):
             {"ordinal": ordinal, **({} if name is None else named("name", name)), **target_members(target)} for ordinal, target, name in rows
         ]
     if image.imports is not None:
-        tables["imports"] = [{**named("module", module), **keyed(key), "slot": slot} for module, slot, key in image.imports]
+        tables["imports"] = [import_row(row) for row in image.imports]
     if image.fixups is not None:
         tables["fixups"] = [fixup_row(field, kind) for field, kind in image.fixups]
     return tables
@@ -206,6 +213,10 @@ def function_members(tables, is_listed):
     return {"function_count": len(rows), **({"functions": rows} if is_listed else {})}
 
 
+def delay_member(tables):
+    return {"delay_imports": [import_row(row) for row in tables.delayed.imports]} if tables.extent(DELAY)[0] else {}
+
+
 def record_members(tables, is_listed):
     """The tables that the profile leaves out."""
     rows = {}
@@ -214,7 +225,7 @@ def record_members(tables, is_listed):
         rows["debug"] = [members(DEBUG_ENTRY.split(), record, flags=False) for _, record in entries]
     rows |= pdb_member(tables, entries)
     rows |= function_members(tables, is_listed)
-    for member in (tls_member, load_member, bound_member, clr_member):
+    for member in (tls_member, load_member, bound_member, clr_member, delay_member):
         rows |= member(tables)
     return rows
 
@@ -312,10 +323,10 @@ def trust_members(trust, has_digests):
     return rows | overlay_member(trust) | rich_member(trust)
 
 
-def findings_member(tables, trust):
-    """The findings of the tables, if these are told, and those of what the file says of itself."""
+def findings_member(tables, trust, symbols):
+    """The findings of the tables, if these are told, those of what the file says of itself, and those of the symbol table."""
     rows = [fault_member(Refused(number, "rva", at)) for number, at in tables.findings] if tables else []
-    rows += [fault_member(Refused(number, "file", at)) for number, at in trust.findings]
+    rows += [fault_member(Refused(number, "file", at)) for number, at in trust.findings + symbols]
     return {"findings": rows} if rows else {}
 
 
@@ -330,7 +341,7 @@ def beyond_members(file, headers, image, is_accepted, options):
     row = record_members(tables, "--functions" in options) | resource_members(tables.resources) if tables else {}
     row |= trust_members(trust, "--no-digest" not in options)
     row |= {"imphash": import_hash(image.imports)} if image and image.imports else {}
-    return row | findings_member(tables, trust)
+    return row | findings_member(tables, trust, ImageSymbols(file, headers).findings if tables else [])
 
 
 def line_of(name, file, options):

@@ -26,6 +26,7 @@ sys.dont_write_bytecode = True
 from pages_names import (CLASSES, DIRECTORIES, DLL_FLAGS, FIXUPS, IMAGE_FLAGS, MACHINES, RELOCATIONS, SEARCHES,  # noqa: E402
                          SECTION_FLAGS, SELECTIONS, SUBSYSTEMS)
 import pages_resources  # noqa: E402
+import pages_symbols  # noqa: E402
 import pages_tables  # noqa: E402
 import pages_trust  # noqa: E402
 from pages_reader import FIXUP_WIDTHS, Headers, Image, Object, Refused, is_object, uint  # noqa: E402
@@ -166,7 +167,7 @@ def image_kind(it):
     return f"{form} {kind} for {name_of(MACHINES, it.machine)}, "
 
 
-def header_rows(it, image):
+def header_rows(it, image, wanted):
     """The rows of the headers; without an image the entry point has no place."""
     entry = f"0x{it.entry:x}"
     if image and it.entry:
@@ -183,7 +184,7 @@ def header_rows(it, image):
     yield with_flags("  Image flags ", flag_words(IMAGE_FLAGS, it.flags) or [" none"], 14)
     yield with_flags("  DLL flags   ", flag_words(DLL_FLAGS, it.dll_flags) or [" none"], 14)
     if image and it.symbols and it.symbol_count:
-        yield f"  Symbols      {counted(it.symbol_count, 'record')} at file 0x{it.symbols:x}, not read"
+        yield f"  Symbols      {counted(it.symbol_count, 'record')} at file 0x{it.symbols:x}{'' if 'symbols' in wanted else ', not read'}"
     end = max([it.headers, *(section.pointer + section.raw_size for section in it.sections if section.pointer)])
     if image and it.file_size > end:
         yield f"  Overlay      {counted(it.file_size - end, 'byte')} after the sections, from file 0x{end:x}"
@@ -268,9 +269,9 @@ def export_rows(image):
             yield f"{number:{ordinal}}  forwarded to {shown(target[0])}.{key_words(target[1])}{names}"
 
 
-def import_rows(imports):
+def import_rows(imports, title="Imports"):
     width = hex_width((slot for _, slot, _ in imports), 6)
-    yield f"\nImports ({len(imports):,})"
+    yield f"\n{title} ({len(imports):,})"
     for module, rows in runs(imports, module_of):
         yield f"  {shown(module, 255)} ({len(rows):,})"
         yield from (f"    0x{slot:0{width}x}  {key_words(key)}" for _, slot, key in rows)
@@ -294,9 +295,17 @@ def table_rows(image, tables, wanted):
         yield from export_rows(image)
     if "imports" in wanted and image.imports is not None:
         yield from import_rows(image.imports)
+    if "imports" in wanted and tables.delayed.imports:
+        yield from import_rows(tables.delayed.imports, "Delay-loaded imports")
     if "relocations" in wanted and image.fixups is not None:
         yield from fixup_rows(image.fixups)
     yield from pages_tables.rows(tables, wanted, shown, lambda rva: place_of(image, rva)[0], UNSAFE)
+
+
+def with_symbols(findings, symbols):
+    """The findings of tables, with those of the symbol table before those of resources."""
+    first = next((k for k, (number, _) in enumerate(findings) if number in range(181, 221)), len(findings))
+    return findings[:first] + symbols + findings[first:]
 
 
 def image_page(file, wanted):
@@ -309,12 +318,16 @@ def image_page(file, wanted):
     except Refused as refused:
         fault = refused
     if headers:
-        kind, rows = image_kind(headers), [*header_rows(headers, image)]
+        kind, rows = image_kind(headers), [*header_rows(headers, image, wanted)]
     findings, trust = [], pages_trust.Trust(file, headers) if headers and "trust" in wanted else None
     if image:
         tables = pages_tables.Tables(image, file, trust.findings if trust else [])
         rows += table_rows(image, tables, wanted)
         findings = tables.findings
+        if "symbols" in wanted:
+            symbols = pages_symbols.ImageSymbols(file, headers)
+            rows += symbol_rows(symbols, [shown(section.name, 40) for section in symbols.sections]) if symbols.table else []
+            findings = with_symbols(findings, symbols.findings)
     elif headers:
         rows += section_rows(headers.sections)
     if trust:
@@ -355,12 +368,16 @@ def relocation_rows(it, names):
             yield f"    0x{at:06x}{file}  {name_of(RELOCATIONS[it.machine], kind)}  #{symbol}{symbols.get(symbol, '')}"
 
 
+def names_of(names, section):
+    return names[section - 1] if section <= len(names) else ""
+
+
 def symbol_rows(it, names):
     width, digits = max(4, len(str(it.records))), len(str(len(it.sections)))
     yield f"\nSymbols ({len(it.symbols):,})"
     for index, name, value, section, kind, storage, records in it.symbols:
         is_in = section not in SECTION_WORDS
-        place = f"{section if is_in else '':>{digits}} {names[section - 1] if is_in else SECTION_WORDS[section]:<12}"
+        place = f"{section if is_in else '':>{digits}} {names_of(names, section) if is_in else SECTION_WORDS[section]:<12}"
         word = CLASSES.get(storage, f"class {storage:7}")
         yield f"{index:{width}}  0x{value:08x}  {place}  {word:<13}  {'function' if kind == 0x20 else '':8}  {shown(name)}"
         for k, record in enumerate(records, 1):

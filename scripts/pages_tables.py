@@ -7,6 +7,8 @@ import datetime
 import struct
 
 import pages_resources
+import pages_symbols
+from pages_delayed import DELAY, Delayed
 from pages_reader import uint
 
 EXCEPTION, CERTIFICATE, DEBUG, TLS, LOAD, BOUND, CLR = 3, 4, 6, 9, 10, 11, 14
@@ -41,6 +43,8 @@ class Tables:
         self.width, self.machine = 8 if image.wide else 4, image.headers.machine
         self.findings = [*self.debug_findings(), *self.function_findings(), *self.tls_findings(), *self.load_findings(),
                          *self.bound_findings(), *self.clr_findings()]
+        self.delayed = Delayed(image, self.held, self.rva_of)
+        self.findings += self.delayed.findings
         self.resources = pages_resources.Resources(image, self.held)
         self.findings += self.resources.findings
 
@@ -270,7 +274,7 @@ def counted(count, one, more=None):
 
 def table_of(number):
     """The directory of a finding's table; the Rich header has none."""
-    ends = {110: DEBUG, 130: EXCEPTION, 140: TLS, 150: LOAD, 160: BOUND, 220: pages_resources.RESOURCE, 240: CERTIFICATE, 250: None, 260: CLR}
+    ends = {110: DEBUG, 130: EXCEPTION, 140: TLS, 150: LOAD, 160: BOUND, 170: DELAY, 220: pages_resources.RESOURCE, 240: CERTIFICATE, 250: None, 260: CLR, 270: None}
     return next(index for end, index in ends.items() if number <= end)
 
 
@@ -296,6 +300,8 @@ def summary(tables, index, shown):
         words = "no field" if size is None else f"{size} bytes"
     elif index == BOUND:
         words = counted(len(tables.bound()[0]), "record")
+    elif index == DELAY:
+        words = counted(len(tables.delayed.imports), "import")
     elif index == CLR:
         header = structure[0] if structure else b""
         words = f"runtime {uint(header, 4, 2)}.{uint(header, 6, 2)}" if len(header) >= 8 else "no version"
@@ -412,9 +418,10 @@ def rows(tables, wanted, shown, place, unsafe):
 
 
 def finding_rows(findings, trust, words):
-    """The row of each finding on tables, at an RVA, and on what the file says of itself, at an offset in it; `words` gives what is at its
+    """The row of each finding on tables, at an RVA, of the symbol table and of what the file says of itself, at an offset in it; `words` gives what is at its
     place, and what is wrong."""
-    rows = [(number, f"RVA 0x{rva:x}") for number, rva in findings] + [(number, f"0x{at:x}") for number, at in trust]
+    rows = [(number, f"0x{at:x}" if number in pages_symbols.NUMBERS else f"RVA 0x{at:x}") for number, at in findings]
+    rows += [(number, f"0x{at:x}") for number, at in trust]
     if rows:
         yield f"\nFindings ({len(rows):,})"
     for number, place in rows:

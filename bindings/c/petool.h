@@ -456,6 +456,11 @@ typedef struct petool_bound_import {
 PETOOL_WARN_UNUSED uint32_t petool_bound_imports(const uint8_t *file, size_t len, petool_bound_import *rows, size_t room,
                                                  size_t *count, petool_fault *fault);
 
+/* The delay-loaded imports, in the order of the delay-load directory table, as rows of the import table: those of each descriptor
+ * that has none of the findings 162 to 167. OK; SMALL; FAULT, with one of 1 to 15; or MEMORY, only if there is an import. */
+PETOOL_WARN_UNUSED uint32_t petool_delay_imports(const uint8_t *file, size_t len, petool_import *rows, size_t room, size_t *count,
+                                                 petool_fault *fault);
+
 /* The fields of the CLR header: 19, or 0 if the image has none. They are cb; MajorRuntimeVersion, MinorRuntimeVersion; the RVA and
  * the size of MetaData; Flags; EntryPointToken; and the RVAs and the sizes of Resources, StrongNameSignature, CodeManagerTable,
  * VTableFixups, ExportAddressTableJumps and ManagedNativeHeader. OK; SMALL; or FAULT, with one of 1 to 15. */
@@ -974,6 +979,11 @@ PETOOL_WARN_UNUSED uint32_t petool_object_sections(const uint8_t *file, size_t l
 PETOOL_WARN_UNUSED uint32_t petool_object_symbols(const uint8_t *file, size_t len, petool_object_symbol *rows, size_t room,
                                                   size_t *count, petool_fault *fault);
 
+/* The symbols of an image, as rows of those of an object, in table order: those whose records the file holds. A name that leads to no
+ * string is empty. OK; SMALL; or FAULT, with one of 1 to 12; memory as for those of an object. */
+PETOOL_WARN_UNUSED uint32_t petool_image_symbols(const uint8_t *file, size_t len, petool_object_symbol *rows, size_t room,
+                                                 size_t *count, petool_fault *fault);
+
 /* The relocations of one section, counted from 0, in the order of their table. OK; SMALL; ABSENT if there is no such section; or
  * FAULT, with one of 61 to 72. Allocates nothing. */
 PETOOL_WARN_UNUSED uint32_t petool_object_relocations(const uint8_t *file, size_t len, size_t section,
@@ -1338,6 +1348,29 @@ PETOOL_WARN_UNUSED static inline uint32_t petool_nullable_bound_imports(const ui
                                 fault);
 }
 #define petool_bound_imports petool_nullable_bound_imports
+
+PETOOL_WARN_UNUSED static inline uint32_t petool_nullable_delay_imports(const uint8_t *file, size_t len, petool_import *rows,
+                                                                        size_t room, size_t *count, petool_fault *fault)
+{
+    if (PETOOL_IS_LOST(file, len))
+        return PETOOL_ARGUMENT;
+    if (PETOOL_IS_LOST(rows, room))
+        return PETOOL_ARGUMENT;
+    return petool_delay_imports((const uint8_t *)petool_some(file), len, (petool_import *)petool_room(rows), room, count, fault);
+}
+#define petool_delay_imports petool_nullable_delay_imports
+
+PETOOL_WARN_UNUSED static inline uint32_t petool_nullable_image_symbols(const uint8_t *file, size_t len, petool_object_symbol *rows,
+                                                                        size_t room, size_t *count, petool_fault *fault)
+{
+    if (PETOOL_IS_LOST(file, len))
+        return PETOOL_ARGUMENT;
+    if (PETOOL_IS_LOST(rows, room))
+        return PETOOL_ARGUMENT;
+    return petool_image_symbols((const uint8_t *)petool_some(file), len, (petool_object_symbol *)petool_room(rows), room, count,
+                                fault);
+}
+#define petool_image_symbols petool_nullable_image_symbols
 
 PETOOL_WARN_UNUSED static inline uint32_t petool_nullable_clr(const uint8_t *file, size_t len, petool_field *rows, size_t room,
                                                               size_t *count, petool_fault *fault)

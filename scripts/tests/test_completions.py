@@ -69,7 +69,7 @@ class Bash(unittest.TestCase):
     def test_options_are_those_of_the_command(self):
         self.assert_offered(["--count", "--help", "--known", "--unbound", "--window"], ["map", "--"], ["map", "10000000=a.dll", "--"])
         self.assert_offered(["--help", "-h"], ["explain", "-"], ["check", "a.dll", "-"])
-        self.assert_offered(["--all", "--functions", "--help", "--most", "--no-digest"], ["json", "--"], ["json", "--most", "4K", "--"])
+        self.assert_offered(["--all", "--functions", "--help", "--most", "--no-digest", "--symbols"], ["json", "--"], ["json", "--most", "4K", "--"])
         self.assert_offered(["--imports"], ["show", "--i"])
 
     def test_where_no_file_can_stand_none_is_offered(self):

@@ -71,7 +71,7 @@ enum { ROWS = 8 };
 static petool_archive_member members[ROWS];
 static petool_archive_symbol symbols[ROWS];
 
-static int is_text(petool_text text, const char *string)
+static int is_string(petool_text text, const char *string)
 {
     return text.len == strlen(string) && memcmp(text.at, string, text.len) == 0;
 }
@@ -137,16 +137,16 @@ static void check_members(void)
     CHECK(read_members(4, &count, &fault) == PETOOL_SMALL && count == 5 && members[3].offset == 264 && is_unset(&members[4]));
     CHECK(read_members(5, &count, &fault) == PETOOL_OK && count == 5 && is_unset(&members[5]));
     CHECK(read_members(ROWS, &count, &fault) == PETOOL_OK && count == 5 && is_unset(&members[5]) && fault.number == 0);
-    CHECK(is_text(members[0].name, "/") && members[0].kind == PETOOL_MEMBER_LINKER && members[0].offset == 8 && members[0].size == 20);
-    CHECK(is_text(members[1].name, "/") && members[1].kind == PETOOL_MEMBER_LINKER && members[1].offset == 88);
+    CHECK(is_string(members[0].name, "/") && members[0].kind == PETOOL_MEMBER_LINKER && members[0].offset == 8 && members[0].size == 20);
+    CHECK(is_string(members[1].name, "/") && members[1].kind == PETOOL_MEMBER_LINKER && members[1].offset == 88);
     CHECK(members[0].bytes.at == made + 68 && members[0].bytes.len == 20);
-    CHECK(is_text(members[2].name, "//") && members[2].kind == PETOOL_MEMBER_LONG_NAMES && members[2].offset == 178);
-    CHECK(is_text(members[3].name, "folder/long name of it.o") && members[3].name.at == made + 238 && members[3].has_name);
+    CHECK(is_string(members[2].name, "//") && members[2].kind == PETOOL_MEMBER_LONG_NAMES && members[2].offset == 178);
+    CHECK(is_string(members[3].name, "folder/long name of it.o") && members[3].name.at == made + 238 && members[3].has_name);
     CHECK(members[3].kind == PETOOL_MEMBER_FILE && members[3].offset == 264 && members[3].size == 4);
-    CHECK(is_text(members[3].bytes, "data") && members[3].bytes.at == made + 324);
+    CHECK(is_string(members[3].bytes, "data") && members[3].bytes.at == made + 324);
     CHECK(is_number(members[3].date, 1700000000) && is_number(members[3].user, 1000) && is_number(members[3].group, 100));
     CHECK(is_number(members[3].mode, 0100644));
-    CHECK(is_text(members[4].name, "k.dll") && members[4].kind == PETOOL_MEMBER_IMPORT && members[4].offset == 328);
+    CHECK(is_string(members[4].name, "k.dll") && members[4].kind == PETOOL_MEMBER_IMPORT && members[4].offset == 328);
     CHECK(members[4].bytes.at == made + 388 && members[4].bytes.len == sizeof import_bytes);
 }
 
@@ -162,12 +162,12 @@ static void check_other_members(void)
     put_member("/4", "", 0);
     put_member("/SYM64/", "", 0);
     CHECK(read_members(ROWS, &count, &fault) == PETOOL_OK && count == 4);
-    CHECK(is_text(members[0].name, "a.o") && members[0].bytes.len == 0 && members[0].kind == PETOOL_MEMBER_FILE);
+    CHECK(is_string(members[0].name, "a.o") && members[0].bytes.len == 0 && members[0].kind == PETOOL_MEMBER_FILE);
     CHECK(!members[0].date.is_present && !members[0].user.is_present && !members[0].group.is_present && !members[0].mode.is_present);
     CHECK(members[0].date.value == 0 && members[0].mode.value == 0);
-    CHECK(is_text(members[1].name, "bsd.o") && is_text(members[1].bytes, "data") && members[1].size == 12);
+    CHECK(is_string(members[1].name, "bsd.o") && is_string(members[1].bytes, "data") && members[1].size == 12);
     CHECK(!members[2].has_name && members[2].name.len == 0 && members[2].kind == PETOOL_MEMBER_FILE);
-    CHECK(is_text(members[3].name, "/SYM64/") && members[3].kind == PETOOL_MEMBER_OWN);
+    CHECK(is_string(members[3].name, "/SYM64/") && members[3].kind == PETOOL_MEMBER_OWN);
 
     /* a thin archive has the bytes of its own members alone */
     header apart = {"/0", "0", "0", "0", "644", "10000"};
@@ -178,7 +178,7 @@ static void check_other_members(void)
     CHECK(read_members(ROWS, &count, &fault) == PETOOL_OK && count == 2);
     CHECK(members[0].kind == PETOOL_MEMBER_LONG_NAMES && members[0].bytes.len == 9);
     CHECK(members[1].kind == PETOOL_MEMBER_APART && members[1].bytes.len == 0 && members[1].size == 10000);
-    CHECK(is_text(members[1].name, "dir/a.o") && is_number(members[1].mode, 0644) && is_number(members[1].date, 0));
+    CHECK(is_string(members[1].name, "dir/a.o") && is_number(members[1].mode, 0644) && is_number(members[1].date, 0));
 }
 
 /* Many members share a name of over 256 bytes, which begins in it at several places; and one that has no end. */
@@ -210,11 +210,11 @@ static void check_symbols(void)
     size_t count = 7;
     make_whole();
     CHECK(read_symbols(1, ROWS, &count, &fault) == PETOOL_OK && count == 2 && symbols[2].member.value == 77);
-    CHECK(is_text(symbols[0].name, "a") && symbols[0].name.at == made + 80 && is_number(symbols[0].member, 264));
-    CHECK(is_text(symbols[1].name, "f") && is_number(symbols[1].member, 328));
+    CHECK(is_string(symbols[0].name, "a") && symbols[0].name.at == made + 80 && is_number(symbols[0].member, 264));
+    CHECK(is_string(symbols[1].name, "f") && is_number(symbols[1].member, 328));
     CHECK(read_symbols(2, ROWS, &count, &fault) == PETOOL_OK && count == 3 && symbols[3].member.value == 77);
-    CHECK(is_text(symbols[0].name, "a") && is_number(symbols[0].member, 264) && is_number(symbols[1].member, 328));
-    CHECK(is_text(symbols[2].name, "los") && !symbols[2].member.is_present && symbols[2].member.value == 0);
+    CHECK(is_string(symbols[0].name, "a") && is_number(symbols[0].member, 264) && is_number(symbols[1].member, 328));
+    CHECK(is_string(symbols[2].name, "los") && !symbols[2].member.is_present && symbols[2].member.value == 0);
     CHECK(read_symbols(2, 1, &count, &fault) == PETOOL_SMALL && count == 3 && symbols[1].member.value == 77);
     CHECK(read_symbols(1, 0, &count, &fault) == PETOOL_SMALL && count == 2 && symbols[0].member.value == 77);
     count = 7;
@@ -237,13 +237,13 @@ static void check_import(void)
     petool_import_object_init(&found);
     memcpy(bytes, import_bytes, sizeof bytes);
     CHECK(petool_archive_import(bytes, sizeof bytes, &found, &fault) == PETOOL_OK && fault.number == 0);
-    CHECK(is_text(found.symbol, "f") && is_text(found.module, "k.dll") && is_text(found.name, "f"));
+    CHECK(is_string(found.symbol, "f") && is_string(found.module, "k.dll") && is_string(found.name, "f"));
     CHECK(found.symbol.at == bytes + 20 && found.module.at == bytes + 22);
     CHECK(found.machine == 0x8664 && found.time_date_stamp == 0x04030201 && found.ordinal == 0x1234);
     CHECK(found.kind == 0 && found.name_type == 1);
     bytes[18] = 2;
     CHECK(petool_archive_import(bytes, sizeof bytes, &found, &fault) == PETOOL_OK);
-    CHECK(found.kind == 2 && found.name_type == 0 && found.name.len == 0 && is_text(found.symbol, "f"));
+    CHECK(found.kind == 2 && found.name_type == 0 && found.name.len == 0 && is_string(found.symbol, "f"));
     found.machine = 7;
     CHECK(petool_archive_import(bytes, 27, &found, &fault) == PETOOL_FAULT && fault.number == 331 && fault.at == 0);
     bytes[18] = 4 * 5;

@@ -252,6 +252,67 @@ static void check_bound_imports(void)
     free(file.at);
 }
 
+static void check_delay_imports(void)
+{
+    /* a descriptor and one of zeros; the name of its module at 0x40, its name table at 0x50, its address table at 0x60, and a name
+     * with its hint at 0x70; other fields are not read */
+    static const uint8_t TABLE[128] = {
+        1, 0, 0, 0, 0x40, 0x10, 0, 0, 0xff, 0xff, 0xff, 0xff, 0x60, 0x10, 0, 0, 0x50, 0x10, 0, 0, 0xff, 0xff, 0xff, 0xff, 0xff, 0xff,
+        0xff, 0xff, 0x11, 0x12, 0x13, 0x14, 0, 0, 0, 0, 0, 0, 0, 0, 0, 0, 0, 0, 0, 0, 0, 0, 0, 0, 0, 0, 0, 0, 0, 0, 0, 0, 0, 0, 0, 0,
+        0, 0, 'a', '.', 'd', 'l', 'l', 0, 0, 0, 0, 0, 0, 0, 0, 0, 0, 0, 0x07, 0x05, 0, 0x80, 0x70, 0x10, 0, 0, 0, 0, 0, 0, 0, 0, 0, 0,
+        0, 0, 0, 0, 0, 0, 0, 0, 0, 0, 0, 0, 0, 0, 0, 0, 0xff, 0xff, 'S', 'l', 'e', 'e', 'p', 0, 0, 0, 0, 0, 0, 0, 0, 0,
+    };
+    bytes file = with_section(13, 64, 0x14c, TABLE, sizeof TABLE);
+    petool_import rows[3];
+    petool_fault fault = UNTOLD;
+    size_t count = 99;
+    petool_imports_init(rows, 3);
+    rows[2].slot = rows[1].slot = 0x5a5a5a5a;
+    CHECK(petool_delay_imports(file.at, file.len, rows, 3, &count, &fault) == PETOOL_OK && count == 2 && is_untold(fault));
+    CHECK(is_text(rows[0].module, "a.dll", 5) && rows[0].by_ordinal && rows[0].ordinal == 0x507 && rows[0].slot == 0x1060);
+    CHECK(is_text(rows[1].module, "a.dll", 5) && !rows[1].by_ordinal && is_text(rows[1].name, "Sleep", 5));
+    CHECK(rows[1].ordinal == 0 && rows[1].slot == 0x1064 && rows[2].slot == 0x5a5a5a5a);
+    rows[1].slot = 0x5a5a5a5a;
+    CHECK(petool_delay_imports(file.at, file.len, rows, 1, &count, &fault) == PETOOL_SMALL && count == 2);
+    CHECK(rows[0].slot == 0x1060 && rows[1].slot == 0x5a5a5a5a);
+    CHECK(petool_delay_imports(file.at, file.len, NULL, 0, &count, &fault) == PETOOL_SMALL && count == 2);
+    CHECK(petool_delay_imports(file.at, file.len, NULL, 1, &count, &fault) == PETOOL_ARGUMENT);
+    CHECK(petool_delay_imports(v1.at, v1.len, rows, 0, &count, &fault) == PETOOL_OK && count == 0 && is_untold(fault));
+    count = 99;
+    CHECK(petool_delay_imports(file.at, 63, rows, 3, &count, &fault) == PETOOL_FAULT && fault.number == 2 && count == 99);
+    CHECK(rows[1].slot == 0x5a5a5a5a);
+    free(file.at);
+}
+
+static void check_image_symbols(void)
+{
+    /* two records, of which the first has the second as its auxiliary record, and the length of a string table without a string */
+    static const uint8_t TABLE[2 * 18 + 4] = {
+        'e', 'i', 'g', 'h', 't', 'l', 'e', 't', 0x11, 0x12, 0x13, 0x14, 0x21, 0x22, 0x31, 0x32, 0x41, 1, 0x50, 0x51, 0x52, 0x53, 0x54,
+        0x55, 0x56, 0x57, 0x58, 0x59, 0x5a, 0x5b, 0x5c, 0x5d, 0x5e, 0x5f, 0x60, 0x61, 4, 0, 0, 0,
+    };
+    bytes file = with_section(15, 0, 0x14c, TABLE, sizeof TABLE);
+    petool_object_symbol rows[2];
+    petool_fault fault = UNTOLD, found;
+    size_t count = 99;
+    put_number(file.at + 0x4c, 0x200);
+    put_number(file.at + 0x50, 2);
+    petool_object_symbols_init(rows, 2);
+    CHECK(petool_image_symbols(file.at, file.len, rows, 2, &count, &fault) == PETOOL_OK && count == 1 && is_untold(fault));
+    CHECK(is_text(rows[0].name, "eightlet", 8) && rows[0].index == 0 && rows[0].value == 0x14131211);
+    CHECK(rows[0].section_number == 0x2221 && rows[0].kind == 0x3231 && rows[0].class_ == 0x41);
+    CHECK(rows[0].aux.len == 18 && rows[0].aux.at == file.at + 0x212 && rows[1].name.len == 0);
+    CHECK(petool_image_symbols(file.at, file.len, NULL, 0, &count, &fault) == PETOOL_SMALL && count == 1);
+    CHECK(petool_image_symbols(file.at, file.len, NULL, 1, &count, &fault) == PETOOL_ARGUMENT);
+    CHECK(petool_image_symbols(v1.at, v1.len, rows, 0, &count, &fault) == PETOOL_OK && count == 0 && is_untold(fault));
+    /* its section is none of the image's */
+    CHECK(petool_findings(file.at, file.len, &found, 1, &count, &fault) == PETOOL_OK && count == 1 && found.number == 263);
+    CHECK(found.place == PETOOL_PLACE_FILE && found.at == 0x200);
+    count = 99;
+    CHECK(petool_image_symbols(file.at, 63, rows, 2, &count, &fault) == PETOOL_FAULT && fault.number == 2 && count == 99);
+    free(file.at);
+}
+
 static void check_findings(void)
 {
     /* a directory of 25 bytes, of which the file has 24; the first function ends before it begins, and its unwind information is
@@ -296,6 +357,8 @@ int main(int argc, char **argv)
     check_tls();
     check_fields();
     check_bound_imports();
+    check_delay_imports();
+    check_image_symbols();
     check_findings();
     free(v1.at);
     return told();

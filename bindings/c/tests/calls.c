@@ -19,11 +19,6 @@ static int is_untold(petool_fault fault)
     return fault.number == UNTOLD.number && fault.image == UNTOLD.image && fault.place == UNTOLD.place && fault.at == UNTOLD.at;
 }
 
-static int is_text(petool_text text, const char *bytes, size_t len)
-{
-    return text.len == len && memcmp(text.at, bytes, len) == 0;
-}
-
 static void check_judging(void)
 {
     petool_fault fault = UNTOLD;

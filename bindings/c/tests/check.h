@@ -29,6 +29,12 @@ static inline int told(void)
     return failed != 0;
 }
 
+/* Whether a text has these bytes. */
+static inline int is_text(petool_text text, const char *bytes, size_t len)
+{
+    return text.len == len && memcmp(text.at, bytes, len) == 0;
+}
+
 typedef struct bytes {
     uint8_t *at;
     size_t len;

@@ -89,6 +89,8 @@ static void ask_beyond(const uint8_t *file, size_t len, uint32_t judged, const p
     petool_pdb_file pdb;
     petool_resource resources[ROWS];
     petool_version_text texts[ROWS];
+    petool_import delayed[ROWS];
+    petool_object_symbol symbols[ROWS];
     petool_version_info version;
     petool_text text = PETOOL_NONE;
     petool_fault found[ROWS], fault = {0, 0, 0, 0};
@@ -97,12 +99,17 @@ static void ask_beyond(const uint8_t *file, size_t len, uint32_t judged, const p
     petool_pdb_init(&pdb);
     petool_resources_init(resources, ROWS);
     petool_version_texts_init(texts, ROWS);
+    petool_imports_init(delayed, ROWS);
+    petool_object_symbols_init(symbols, ROWS);
     right = agrees(petool_debug(file, len, entries, ROWS, &count, &fault), &fault, judged, first);
     right = right && agrees(petool_functions(file, len, functions, ROWS, &count, &fault), &fault, judged, first);
     right = right && agrees(petool_tls_callbacks(file, len, callbacks, ROWS, &count, &fault), &fault, judged, first);
     right = right && agrees(petool_load_configuration(file, len, fields, ROWS, &count, &fault), &fault, judged, first);
     right = right && agrees(petool_clr(file, len, fields, ROWS, &count, &fault), &fault, judged, first);
     right = right && agrees(petool_bound_imports(file, len, imports, ROWS, &count, &fault), &fault, judged, first);
+    right = right && agrees(petool_delay_imports(file, len, delayed, ROWS, &count, &fault), &fault, judged, first);
+    right = right && agrees_to(12, petool_image_symbols(file, len, symbols, ROWS, &count, &fault), &fault, judged, first)
+        && count <= len / 18;
     right = right && agrees(petool_findings(file, len, found, ROWS, &count, &fault), &fault, judged, first);
     right = right && agrees(petool_tls(file, len, &tls, &fault), &fault, judged, first);
     right = right && agrees(petool_pdb(file, len, &pdb, &fault), &fault, judged, first);

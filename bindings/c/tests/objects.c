@@ -4,11 +4,6 @@
 
 static bytes o1, two;
 
-static int is_text(petool_text text, const char *bytes, size_t len)
-{
-    return text.len == len && memcmp(text.at, bytes, len) == 0;
-}
-
 static void check_judging(void)
 {
     petool_fault fault = {0, 0, 0, 0};

@@ -18,11 +18,6 @@ static int is_finding(petool_fault it, uint16_t number, uint64_t offset)
     return it.number == number && it.place == PETOOL_PLACE_FILE && it.image == 0 && it.at == offset;
 }
 
-static int is_text(petool_text text, const char *bytes, size_t len)
-{
-    return text.len == len && memcmp(text.at, bytes, len) == 0;
-}
-
 static void put_number(uint8_t *at, uint32_t number)
 {
     for (int k = 0; k < 4; k++)

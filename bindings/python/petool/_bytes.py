@@ -64,13 +64,15 @@ def view_of(data: Any) -> memoryview:
 class FileBytes:
     """All bytes of a file, which are held until close(): a bytearray cannot change its size meanwhile."""
 
-    __slots__ = ("_view", "address", "length", "is_held")
+    __slots__ = ("_view", "_source", "address", "length", "is_held")
 
     def __init__(self, data: Any) -> None:
         self._view = view_of(data)
         self.address = address_of(self._view)
         self.length = len(self._view)
         self.is_held = True
+        #: what strings are cut from: a slice of bytes or of an mmap is bytes, which are copied once
+        self._source: Any = data if type(data) in (bytes, mmap.mmap) else self._view
 
     def hold(self) -> memoryview:
         """Keeps the bytes in place for one call: until it is released they do not move, even if another thread calls close()."""
@@ -84,10 +86,13 @@ class FileBytes:
         if length == 0:
             return b""
         start = at - self.address
-        return self._view[start : start + length].tobytes()
+        cut = self._source[start : start + length]
+        return cut if type(cut) is bytes else cut.tobytes()
 
     def close(self) -> None:
         self.is_held = False
+        # a released view refuses each use
+        self._source = self._view
         self._view.release()
 
 
@@ -109,10 +114,14 @@ class RowLayout:
         # no pointer of a string may be NULL before a call
         self.blank = self.struct.pack(*(_library.NO_BYTES if code == "P" else 0 for code in form if code != "x"))
 
-    def first(self, count: int) -> struct.Struct:
-        """A row of which only the first numbers are unpacked."""
-        head = self._form[:count]
-        return struct.Struct(f"{head}{self.size - struct.calcsize(head)}x")
+    def only(self, *indexes: int) -> struct.Struct:
+        """A row of which only the numbers of these indexes are unpacked."""
+        form, end = "", 0
+        for index in indexes:
+            after = struct.calcsize(self._form[: index + 1])
+            start = after - struct.calcsize(self._form[index])
+            form, end = f"{form}{start - end}x{self._form[index]}", after
+        return struct.Struct(f"{form}{self.size - end}x")
 
 
 #: The rows of tables by their names.
@@ -148,9 +157,9 @@ class Rows(AbstractSequence, Generic[Row]):  # type: ignore[type-arg]
         rows: memoryview,
         layout: RowLayout,
         make: Callable[..., Row],
-        make_all: Optional[Callable[[Iterator[Tuple[int, ...]]], Iterator[Row]]] = None,
+        make_all: Optional[Callable[["Rows[Row]"], Iterator[Row]]] = None,
     ) -> None:
-        """`make` makes an item of the numbers of a row, and `make_all`, which is faster, all items of those of all rows."""
+        """`make` makes an item of the numbers of a row, and `make_all`, which is faster, the items of all rows."""
         self._rows, self._layout, self._make, self._make_all = rows, layout, make, make_all
 
     def __len__(self) -> int:
@@ -177,8 +186,12 @@ class Rows(AbstractSequence, Generic[Row]):  # type: ignore[type-arg]
         """The same of each row."""
         return self._layout.struct.iter_unpack(self._rows)
 
+    def parts(self, form: struct.Struct) -> Iterator[Tuple[int, ...]]:
+        """Some of the numbers of each row."""
+        return form.iter_unpack(self._rows)
+
     def __iter__(self) -> Iterator[Row]:
-        return self._make_all(self.values()) if self._make_all else itertools.starmap(self._make, self.values())
+        return self._make_all(self) if self._make_all else itertools.starmap(self._make, self.values())
 
     def __reduce__(self) -> Tuple[Any, ...]:
         """A copy, by pickle too, is a tuple, which needs no file."""

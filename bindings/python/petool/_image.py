@@ -19,6 +19,7 @@ from ._fault import FormatFault, ask, raise_for
 from ._file import OfFile
 from ._joined import HEADS, Joined
 from ._library import library
+from ._object import ObjectSymbol, symbols_of
 from ._resource import Resource, Version
 from ._tables import BoundImport, ClrHeader, DebugEntry, Finding, Function, LoadConfiguration, Pdb, Tls
 from ._trust import TrustOfFile
@@ -144,13 +145,21 @@ class _ExportFields(NamedTuple):
 class Export(_ExportFields):
     """A row by name or by ordinal: two are equal if they have one name, ordinal and target."""
 
-    #: all names of the ordinal, in the order of the name pointer table: a tuple, unless names share strings
-    names: Sequence[bytes]
+    #: the names of an ordinal with several, which an instance has only then: most have one
+    _names: Optional[Sequence[bytes]] = None
 
-    def __new__(cls, name: Optional[bytes], ordinal: int, target: Target, names: Sequence[bytes] = ()) -> "Export":
+    def __new__(cls, name: Optional[bytes], ordinal: int, target: Target, names: Optional[Sequence[bytes]] = None) -> "Export":
         self = tuple.__new__(cls, (name, ordinal, target))
-        self.names = names
+        if names is not None:
+            self._names = names
         return self
+
+    @property
+    def names(self) -> Sequence[bytes]:
+        """All names of the ordinal, in the order of the name pointer table: a tuple, unless names share strings."""
+        if self._names is not None:
+            return self._names
+        return () if self.name is None else (self.name,)
 
     def __repr__(self) -> str:
         return f"Export(name={self.name!r}, ordinal={self.ordinal!r}, target={self.target!r})"
@@ -204,6 +213,9 @@ _GUESS = 64
 #: How many numbers of an export's row come before its target: the ordinal, and the pointer and the length of the name.
 _NAMED = 3
 
+#: The ordinal of an export's row, and the kind and the RVA of its target.
+_TARGETS = LAYOUTS["export"].only(0, _NAMED, _NAMED + 1)
+
 
 def _headers_of(record: _records.Headers) -> Headers:
     values = {it.name: getattr(record, it.name) for it in fields(Headers)}
@@ -243,21 +255,18 @@ def _maker_by_ordinal(file: FileBytes, joined: Joined) -> Callable[..., Export]:
 
 def _maker_of_all(
     file: FileBytes, joined: Joined, make: Callable[..., Export]
-) -> Callable[[Iterator[Tuple[int, ...]]], Iterator[Export]]:
-    """Makes all rows. Most have one name, and are in the image itself: those are made here, since a call takes longer."""
+) -> Callable[[Rows[Export]], Iterator[Export]]:
+    """Makes all rows. Most have at most one name, and are in the image itself: those are made here, since a call takes longer."""
 
-    def make_all(values: Iterator[Tuple[int, ...]]) -> Iterator[Export]:
+    def make_all(rows: Rows[Export]) -> Iterator[Export]:
         # no rows of a closed file
         file.hold().release()
-        names_of, new = joined.by_ordinal.get, tuple.__new__
-        for row in values:
-            names = names_of(row[0], ())
-            if row[_NAMED] == _TARGET_RVA and len(names) == 1:
-                export = new(Export, (names[0], row[0], new(Rva, (row[_NAMED + 1],))))
-                export.names = names
-                yield export
+        name_of, several, new = joined.alone.get, joined.several, tuple.__new__
+        for index, (ordinal, kind, rva) in enumerate(rows.parts(_TARGETS)):
+            if kind == _TARGET_RVA and ordinal not in several:
+                yield new(Export, (name_of(ordinal), ordinal, new(Rva, (rva,))))
             else:
-                yield make(*row)
+                yield make(*rows.row(index))
 
     return make_all
 
@@ -268,9 +277,9 @@ def imports_of(file: FileBytes, rows: memoryview) -> Rows[Import]:
     def make(module_at: int, module: int, at: int, length: int, ordinal: int, slot: int, by_ordinal: bool) -> Import:
         return Import(file.text(module_at, module), ordinal if by_ordinal else file.text(at, length), slot)
 
-    def make_all(values: Iterator[Tuple[int, ...]]) -> Iterator[Import]:
+    def make_all(rows: Rows[Import]) -> Iterator[Import]:
         text, last, name = file.text, (0, 0), b""
-        for module_at, module, at, length, ordinal, slot, by_ordinal in values:
+        for module_at, module, at, length, ordinal, slot, by_ordinal in rows.values():
             # the imports of a module follow one another
             if (module_at, module) != last:
                 last, name = (module_at, module), text(module_at, module)
@@ -384,6 +393,8 @@ class Image(TrustOfFile):
         self._imports: Optional[Rows[Import]] = None
         self._fixup_rows: Optional[memoryview] = None
         self._debug: Optional[Rows[DebugEntry]] = None
+        self._delay_imports: Optional[Rows[Import]] = None
+        self._symbols: Optional[Rows[ObjectSymbol]] = None
         self._functions: Optional[Rows[Function]] = None
         self._resources: Optional[Rows[Resource]] = None
         self._findings: Optional[Tuple[Finding, ...]] = None
@@ -537,6 +548,22 @@ class Image(TrustOfFile):
         layout, start = LAYOUTS["bound_import"], self.headers.directories[_BOUND_IMPORT].rva
         rows = layout.struct.iter_unpack(self._beyond("bound_imports", layout))
         return tuple(BoundImport(stamp, offset, count, self.text(start + offset)) for stamp, offset, count in rows)
+
+    @property
+    def delay_imports(self) -> Sequence[Import]:
+        """What the image imports when it first calls it, in the order of the delay-load directory table, read when first needed: the
+        imports of each descriptor that has none of the findings 162 to 167."""
+        if self._delay_imports is None:
+            self._delay_imports = imports_of(self._file, self._beyond("delay_imports", LAYOUTS["import"]))
+        return self._delay_imports
+
+    @property
+    def symbols(self) -> Sequence[ObjectSymbol]:
+        """The COFF symbols, in the order of the symbol table and without the auxiliary records, read when first needed: those whose
+        records the file holds. A name that leads to no string is empty."""
+        if self._symbols is None:
+            self._symbols = symbols_of(self._file, self._beyond("image_symbols", LAYOUTS["object_symbol"]))
+        return self._symbols
 
     @property
     def resources(self) -> Sequence[Resource]:

@@ -2,13 +2,14 @@
 
 from __future__ import annotations
 
-from typing import Dict, List, Optional, Sequence
+from typing import Dict, List, Optional, Sequence, Tuple
 
 from ._bytes import LAYOUTS, FileBytes, Rows
 
 _LAYOUT = LAYOUTS["export"]
 #: The ordinal of a row, and the pointer and the length of its name.
-HEADS = _LAYOUT.first(3)
+HEADS = _LAYOUT.only(0, 1, 2)
+_LENGTHS = _LAYOUT.only(2)
 
 
 class Joined:
@@ -20,41 +21,52 @@ class Joined:
     def __init__(self, file: FileBytes, names: memoryview) -> None:
         self._file, self._rows = file, names
         self._are_shared: Optional[bool] = None
-        self._by_ordinal: Optional[Dict[int, Sequence[bytes]]] = None
+        self._found: Optional[Tuple[Dict[int, bytes], Dict[int, Sequence[bytes]]]] = None
 
     @property
     def are_shared(self) -> bool:
         """Whether names share strings: they are longer together than the file."""
         if self._are_shared is None:
-            self._are_shared = sum(length for _, _, length in HEADS.iter_unpack(self._rows)) > self._file.length
+            self._are_shared = sum(length for (length,) in _LENGTHS.iter_unpack(self._rows)) > self._file.length
         return self._are_shared
 
     def names_of(self, ordinal: int) -> Sequence[bytes]:
         """The names of an ordinal, in the order of the name pointer table."""
-        return self.by_ordinal.get(ordinal, ())
+        names = self.several.get(ordinal)
+        if names is None:
+            name = self.alone.get(ordinal)
+            return () if name is None else (name,)
+        return names
 
     @property
-    def by_ordinal(self) -> Dict[int, Sequence[bytes]]:
-        """The names of each ordinal that has any."""
-        if self._by_ordinal is None:
-            self._by_ordinal = self._grouped() if self.are_shared else self._copied()
-        return self._by_ordinal
+    def alone(self) -> Dict[int, bytes]:
+        """The first name of each ordinal, for those that are not among `several` the only one."""
+        return self._by_ordinal()[0]
+
+    @property
+    def several(self) -> Dict[int, Sequence[bytes]]:
+        """The names of each ordinal that has more than one, or of each that has any, if names share strings."""
+        return self._by_ordinal()[1]
+
+    def _by_ordinal(self) -> Tuple[Dict[int, bytes], Dict[int, Sequence[bytes]]]:
+        if self._found is None:
+            self._found = ({}, self._grouped()) if self.are_shared else self._copied()
+        return self._found
 
     def _texts(self, rows: memoryview) -> Rows[bytes]:
         file = self._file
         return Rows(rows, _LAYOUT, lambda _, at, length, *target: file.text(at, length))
 
-    def _copied(self) -> Dict[int, Sequence[bytes]]:
-        found: Dict[int, Sequence[bytes]] = {}
+    def _copied(self) -> Tuple[Dict[int, bytes], Dict[int, Sequence[bytes]]]:
+        alone: Dict[int, bytes] = {}
         more: Dict[int, List[bytes]] = {}
         text = self._file.text
         for ordinal, at, length in HEADS.iter_unpack(self._rows):
-            if ordinal in found:
-                more.setdefault(ordinal, [*found[ordinal]]).append(text(at, length))
+            if ordinal in alone:
+                more.setdefault(ordinal, [alone[ordinal]]).append(text(at, length))
             else:
-                found[ordinal] = (text(at, length),)
-        found.update((ordinal, tuple(names)) for ordinal, names in more.items())
-        return found
+                alone[ordinal] = text(at, length)
+        return alone, {ordinal: tuple(names) for ordinal, names in more.items()}
 
     def _grouped(self) -> Dict[int, Sequence[bytes]]:
         rows: Dict[int, List[int]] = {}

@@ -105,6 +105,11 @@ def _maker(file: FileBytes, kind: Callable[..., Any]) -> Callable[..., Any]:
     return make
 
 
+def symbols_of(file: FileBytes, rows: memoryview) -> Rows[ObjectSymbol]:
+    """The symbols of an object or of an image, whose rows a call has filled."""
+    return Rows(rows, LAYOUTS["object_symbol"], _maker(file, ObjectSymbol))
+
+
 class Object(OfFile):
     """One COFF object, from the bytes of its file. FormatFault of 61 to 72. What Image says of bytes and of ``file`` holds here
     too."""
@@ -151,8 +156,7 @@ class Object(OfFile):
     def symbols(self) -> Sequence[ObjectSymbol]:
         """In the order of the symbol table, without the auxiliary records."""
         if self._symbols is None:
-            rows = self._rows(library.petool_object_symbols, LAYOUTS["object_symbol"])
-            self._symbols = Rows(rows, LAYOUTS["object_symbol"], _maker(self._file, ObjectSymbol))
+            self._symbols = symbols_of(self._file, self._rows(library.petool_object_symbols, LAYOUTS["object_symbol"]))
         return self._symbols
 
     def relocations(self, section: int) -> Sequence[ObjectRelocation]:

@@ -238,7 +238,7 @@ ROWS = [
 @unittest.skipUnless(PROGRAM, "left out without program: PETOOL_PROGRAM names none")
 class Beyond(FindingPages, unittest.TestCase):
     # those of resources and of what a file says of itself have tests of their own
-    NUMBERS, FOUND, SOUND = (range(101, 181), range(251, 300)), FOUND, SOUND
+    NUMBERS, FOUND, SOUND = (range(101, 161), range(251, 261)), FOUND, SOUND
 
     def test_a_finding_is_explained(self):
         done = run([PROGRAM, "explain", "103"])

@@ -1,4 +1,6 @@
 pub mod Digits
+pub mod ImageSymbolRows
+pub mod ImageSymbolSteps
 pub mod Mapped
 pub mod RecordPlaces
 pub mod StringPlaces

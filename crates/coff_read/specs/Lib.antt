@@ -9,6 +9,8 @@ pub mod FileView
 pub mod Form
 pub mod Headers
 pub mod ImageNames
+pub mod ImageSymbols
+pub mod ImageSymbolsLeft
 pub mod NameField
 pub mod Names
 pub mod ObjectFaults

@@ -6,7 +6,8 @@ ghost use Rattle.pe_view.specs.Text.{text_between};
 
 use crate::tables::{SYMBOL_LEN, texts_len};
 use pe_head::Headers;
-use pe_view::View;
+use pe_view::{TextEnds, View};
+use std::alloc::Allocator;
 
 /// The string table of an image.
 #[derive(Clone, Copy)]
@@ -19,6 +20,7 @@ pub struct ImageStrings<'a> {
 
 impl<'a> ImageStrings<'a> {
     ghost use Rattle.std.specs.Prelude.{option_map};
+    ghost use Rattle.pe_view.specs.TextEnds.{AreEndsOf};
     ghost use Rattle.coff_read.specs.ImageNames.{table_of, image_strings, text_in};
 
     /// The string table of an image, if it has one that is inside its file ("PE Format", COFF String Table).
@@ -34,6 +36,23 @@ impl<'a> ImageStrings<'a> {
         let table = View::new(view.slice(start, u64::from(size))?);
         let texts = texts_len(table, 0, table.len());
         Some(ImageStrings { table, texts })
+    }
+
+    /// The string at an offset, as [`ImageStrings::text_at`] returns it. Where strings of the table end is remembered.
+    pub(crate) fn text_kept<A: Allocator + Copy>(
+        &self,
+        ends: &mut TextEnds<A>,
+        offset: u32,
+    ) -> Option<&'a [u8]>
+        requires { AreEndsOf (table_of self.now) ends.old }
+        ensures text { option_map (λ text. text.now) result ≡ text_in (table_of self.now) offset }
+        ensures known { AreEndsOf (table_of self.now) ends.new }
+    {
+        let offset = u64::from(offset);
+        if offset < 4 {
+            return None;
+        }
+        ends.until_zero(self.table, offset, self.table.len())
     }
 
     /// The string at an offset.

@@ -221,7 +221,7 @@ are_exports_members limit exports = (
 )
 
 -- ---- imports and base relocations
-import_value : (limit : ℕ) (i : Import) → IsValue (suc limit) (import_row i)
+pub import_value : (limit : ℕ) (i : Import) → IsValue (suc limit) (import_row i)
 unfolding import_row
 import_value limit i = members_value limit _ (name_member _ _ _ refl refl, (is_key_member limit i.key, (number_member _ _ _ refl, tt)))
 

@@ -96,7 +96,7 @@ classes_ascii : are_ascii_names storage_class_names ≡ true
 unfolding storage_class_names
 classes_ascii = refl
 
-symbol_value : (limit index : ℕ) (s : Symbol) → IsValue (suc (suc (suc limit))) (symbol_row index s)
+pub symbol_value : (limit index : ℕ) (s : Symbol) → IsValue (suc (suc (suc limit))) (symbol_row index s)
 symbol_value limit index s =
     members_value (suc (suc limit)) _ (
       number_member _ _ _ refl,

@@ -3,6 +3,7 @@ use Rattle.std.proofs.Common.{◌≡◌, ◌+◌, ℕ, suc, Bool, true, false, L
 use Rattle.std.specs.Prelude.{⊤, ◌==◌, cond, find, option_and_then, slice_get, if◌then◌else◌}
 use Rattle.std.specs.List.{range_with_len}
 use Rattle.std.proofs.lemmas.Bool.{and_parts}
+use Rattle.pe_delay.specs.Imports.{delay_imports_of}
 use Rattle.pe_head.specs.Names.{Names, name_in}
 use Rattle.pe_head.specs.declared.directory.Directory.{Directory}
 use Rattle.pe_head.specs.declared.headers.Headers.{Headers}
@@ -27,6 +28,7 @@ use Rattle.pe_records.specs.declared.tls_directory.TlsDirectory.{TlsDirectory}
 use Rattle.pe_view.specs.declared.fault.Fault.{Fault}
 use Rattle.pe_json.specs.BoundRows.{module_at, module_if, bound_numbers, bound_row, bound_records, bound_members_at, bound_members}
 use Rattle.pe_json.specs.DebugRows.{type_numbers, data_numbers, debug_row, debug_entries, debug_members_at, debug_members}
+use Rattle.pe_json.specs.DelayRows.{delay_members_at, delay_members}
 use Rattle.pe_json.specs.FindingRows.{trust_findings, image_findings, finding_row, findings_in, findings_members}
 use Rattle.pe_json.specs.FunctionRows.{function_count_in, count_member, function_row, arm_function_row, rows_in, list_member, listed_if, function_members_at, function_members}
 use Rattle.pe_tables.specs.Imports.{Import, imports_of}
@@ -37,6 +39,8 @@ use Rattle.pe_json.specs.PdbRows.{is_code_view, data_at, path_if, code_view_memb
 use Rattle.pe_json.specs.ResourceRows.{resource_members}
 use Rattle.pe_json.specs.StructureKeys.{load_keys, clr_keys}
 use Rattle.pe_json.specs.StructureRows.{structure_key, held_of, fields_of, keys_of, field_value, value_members, keyed_members, member_at, fields_if, structure_members_at, structure_members}
+use Rattle.pe_json.specs.SymbolRows.{indexed_row, symbols_unless, symbol_members}
+use Rattle.pe_json.specs.TableRows.{import_row}
 use Rattle.pe_json.specs.TrustRows.{imphash_if, trust_members}
 use Rattle.pe_json.specs.declared.beyond.Beyond.{Beyond}
 use Rattle.pe_json.specs.TlsRows.{tls_addresses, tls_fields, callback_members, tls_members_at, tls_members}
@@ -44,8 +48,11 @@ use Rattle.pe_json.specs.declared.structure.StructureKind.{StructureKind}
 use Rattle.pe_json.specs.declared.structure.StructureKind.TheVariants.{LoadConfiguration, ClrHeader}
 use Rattle.pe_json.proofs.Printed.{IsValue, AreValues, AreMembers, is_number, items_value, members_value}
 use Rattle.pe_json.proofs.JsonMembers.{IsAsciiText, is_member, number_member, name_member, wide_member, wide_value, hex_value, members_then, flat_members, text_members, row_values}
+use Rattle.coff_read.specs.ImageSymbols.{image_symbols}
+use Rattle.coff_read.specs.Records.{Symbol}
 use Rattle.pe_json.proofs.FaultValues.{fault_value}
-use Rattle.pe_json.proofs.ImageValues.{are_ascii_names, named}
+use Rattle.pe_json.proofs.ObjectValues.{symbol_value}
+use Rattle.pe_json.proofs.ImageValues.{are_ascii_names, import_value, named}
 use Rattle.pe_json.proofs.ResourceValues.{are_resource_members}
 use Rattle.pe_json.proofs.TrustValues.{are_imphash_if, are_trust_members}
 
@@ -242,6 +249,19 @@ unfolding bound_members_at
 are_bound_members limit i None = tt
 are_bound_members limit i (Some d) = (is_member _ _ _ refl (items_value (suc limit) _ (row_values (suc limit) (bound_row i d.rva) (bound_records i) (bound_value limit i d.rva))), tt)
 
+-- ---- delay-loaded imports
+are_delay_members : (limit : ℕ) (d : Option Directory) (imports : List Import) → AreMembers (suc (suc limit)) (delay_members_at d imports)
+unfolding delay_members_at
+are_delay_members limit None imports = tt
+are_delay_members limit (Some d) imports = (is_member _ _ _ refl (items_value (suc limit) _ (row_values (suc limit) import_row imports (import_value limit))), tt)
+
+-- ---- symbols
+are_symbols : (limit : ℕ) (left_out : Bool) (symbols : List (ℕ × Symbol)) → AreMembers (suc (suc (suc (suc limit)))) (symbols_unless left_out symbols)
+unfolding symbols_unless
+are_symbols limit true symbols = tt
+are_symbols limit false symbols =
+    (is_member _ _ _ refl (items_value (suc (suc (suc limit))) _ (row_values (suc (suc (suc limit))) indexed_row symbols (λ item. symbol_value limit item.0 item.1))), tt)
+
 -- ---- findings
 are_findings_in : (limit : ℕ) (fs : List Fault) → AreMembers (suc (suc (suc limit))) (findings_in fs)
 unfolding findings_in
@@ -262,9 +282,11 @@ pub are_members_beyond : (limit : ℕ) (beyond : Option Beyond) (file : List ℕ
 are_members_beyond limit None file h i = tt
 are_members_beyond limit (Some b) file h i =
     members_then _ (record_members b.functions h.machine i) _ (are_record_members _ b.functions h.machine i)
+    (members_then _ (delay_members i) _ (are_delay_members _ (i.directory 13) (delay_imports_of i))
     (members_then _ (resource_members i) _ (are_resource_members _ i)
+    (members_then _ (symbol_members b.symbols file h) _ (are_symbols limit _ (image_symbols file h))
     (members_then _ (trust_members b.digests file h) _ (are_trust_members limit b.digests file h)
-    (members_then _ (imphash_if (import_hash_of (imports_of i))) (findings_members file h i) (are_imphash_if _ (import_hash_of (imports_of i))) (are_findings_in _ (image_findings file h i)))))
+    (members_then _ (imphash_if (import_hash_of (imports_of i))) (findings_members file h i) (are_imphash_if _ (import_hash_of (imports_of i))) (are_findings_in _ (image_findings file h i)))))))
 
 are_hash_if : (limit : ℕ) (imports : Option (List Import)) → AreMembers (suc limit) (hash_if imports)
 unfolding hash_if

@@ -7,11 +7,13 @@ use Rattle.pe_view.specs.declared.fault.Fault.{Fault}
 use Rattle.pe_imphash.specs.ImportText.{import_hash_of}
 use Rattle.pe_json.specs.BoundRows.{bound_members}
 use Rattle.pe_json.specs.DebugRows.{debug_members}
+use Rattle.pe_json.specs.DelayRows.{delay_members}
 use Rattle.pe_json.specs.FindingRows.{findings_in, findings_members, trust_findings}
 use Rattle.pe_json.specs.FunctionRows.{function_members}
 use Rattle.pe_json.specs.PdbRows.{pdb_members}
 use Rattle.pe_json.specs.ResourceRows.{resource_members}
 use Rattle.pe_json.specs.StructureRows.{structure_members}
+use Rattle.pe_json.specs.SymbolRows.{symbol_members}
 use Rattle.pe_json.specs.TlsRows.{tls_members}
 use Rattle.pe_json.specs.TrustRows.{imphash_if, trust_members}
 use Rattle.pe_json.specs.declared.beyond.Beyond.{Beyond}
@@ -26,12 +28,15 @@ record_members functions machine i =
     ++ (tls_members i
     ++ (structure_members LoadConfiguration i ++ (bound_members i ++ structure_members ClrHeader i)))))
 
--- what is told beyond the profile: these tables, the resources, what the file says of itself, and what is found in all of them
+-- what is told beyond the profile: these tables, delay-loaded imports, the resources, the symbols, what the file says of itself, and what
+-- is found in all of them
 abbrev pub beyond_members : Beyond → List ℕ → Headers → LaidOut → List (List ℕ)
 beyond_members b file h i =
     record_members b.functions h.machine i
+    ++ (delay_members i
     ++ (resource_members i
-    ++ (trust_members b.digests file h ++ (imphash_if (import_hash_of (imports_of i)) ++ findings_members file h i)))
+    ++ (symbol_members b.symbols file h
+    ++ (trust_members b.digests file h ++ (imphash_if (import_hash_of (imports_of i)) ++ findings_members file h i)))))
 
 -- the same, if it is asked for
 abbrev pub members_beyond : Option Beyond → List ℕ → Headers → LaidOut → List (List ℕ)

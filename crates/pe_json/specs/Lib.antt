@@ -9,6 +9,7 @@ pub use Rattle.pe_text.specs.Outcome
 pub mod BoundRows
 pub mod CertificateRows
 pub mod DebugRows
+pub mod DelayRows
 pub mod ExportRows
 pub mod FileLine
 pub mod FindingRows
@@ -31,6 +32,7 @@ pub mod Sections
 pub mod Strings
 pub mod StructureKeys
 pub mod StructureRows
+pub mod SymbolRows
 pub mod TableRows
 pub mod TlsRows
 pub mod TrustRows

@@ -7,6 +7,8 @@
 pub struct Beyond {
     /// Whether each function of the exception table is listed.
     pub functions: bool,
+    /// Whether each symbol of the image is listed.
+    pub symbols: bool,
     /// Whether that is told for which the whole file is added up or hashed: CheckSum as it is to be, and digests.
     pub digests: bool,
 }

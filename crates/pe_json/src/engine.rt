@@ -25,6 +25,7 @@ use crate::image::{Content, write_image, write_plain_image};
 use crate::object::write_object;
 use crate::refused::{RefusedImage, refuse, refuse_laid_out, refuse_unlaid};
 use coff_read::ObjectFile;
+use pe_delay::read_delay_imports;
 use pe_image::Image;
 use pe_layout::Layout;
 use pe_reach::laws::faults_agree;
@@ -131,8 +132,8 @@ fn write_refused<A: Allocator + Copy, W: Sink>(
     }
 }
 
-/// Adds the line of an image without a fault, with what is told beyond its profile if that is asked for. All memory is taken before its
-/// first byte.
+/// Adds the line of an image without a fault, with what is told beyond its profile if that is asked for. Memory without
+/// which there is no line is taken before its first byte.
 fn write_accepted<A: Allocator + Copy, W: Sink>(
     alloc: A,
     text: &mut TextWriter<W>,
@@ -165,14 +166,17 @@ fn write_accepted<A: Allocator + Copy, W: Sink>(
     };
     let bytes = file.beginning();
     let tree = leaves(alloc, &image.layout)?;
+    let delayed = read_delay_imports(alloc, &image.layout)?;
     let found = findings_of(alloc, &image.layout, bytes, tree.findings.as_slice())?;
     write_image(
+        alloc,
         text,
         name,
         content,
         beyond,
         bytes,
         &image.layout,
+        delayed.as_slice(),
         tree.leaves.as_slice(),
         found.as_slice(),
     );

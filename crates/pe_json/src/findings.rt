@@ -12,10 +12,12 @@ ghost use Rattle.pe_json.specs.Listed.{more};
 
 use crate::beyond::Beyond;
 use crate::fault::write_object;
+use pe_delay::delay_findings;
 use pe_head::Headers;
 use pe_layout::Layout;
 use pe_records::findings;
 use pe_resources::version_findings;
+use pe_symbols::symbol_findings;
 use pe_text::{Sink, TextWriter};
 use pe_trust::{certificate_findings, rich_finding};
 use pe_view::{Fault, View};
@@ -83,9 +85,12 @@ pub(crate) fn findings_of<A: Allocator + Copy>(
     ensures { IfOk result (λ findings. findings.items ≡ image_findings (bytes_of file.entry) (headers_of layout.now) (image_of layout.now)) }
 {
     let mut all = findings(alloc, layout, file)?;
+    all.extend_from_slice(delay_findings(alloc, layout)?.as_slice())?;
     all.extend_from_slice(tree)?;
     all.extend_from_slice(version_findings(alloc, layout)?.as_slice())?;
     add_trust(&mut all, file, layout.headers())?;
+    let symbols = symbol_findings(alloc, layout.image(), file, layout.headers())?;
+    all.extend_from_slice(symbols.as_slice())?;
     Ok(all)
 }
 

@@ -6,6 +6,7 @@ ghost use Rattle.coff_read.specs.ImageNames.{table_of};
 ghost use Rattle.pe_tables.specs.ExportsView.{exports_view, by_ordinal_view};
 ghost use Rattle.pe_tables.specs.Imports.{imports_of};
 ghost use Rattle.pe_tables.specs.ImportView.{import_view};
+ghost use Rattle.pe_delay.specs.Imports.{delay_imports_of};
 ghost use Rattle.pe_resources.specs.Walk.{leaves_of};
 ghost use Rattle.pe_text.specs.TextWriter.{IsReady, Adds};
 ghost use Rattle.pe_json.specs.ExportRows.{AreNamesOf};
@@ -163,15 +164,17 @@ pub(crate) fn write_plain_image<A: Allocator + Copy, W: Sink>(
     text.text(b"\n");
 }
 
-/// Adds the line of an image without a fault, whose file has this name, with what is told beyond its profile, given its whole file, the
-/// leaves of its resource tree and its findings.
+/// Adds the line of an image without a fault, whose file has this name, with what is told beyond its profile, given its whole file, its
+/// delay-loaded imports, the leaves of its resource tree and its findings.
 pub(crate) fn write_image<A: Allocator + Copy, W: Sink>(
+    alloc: A,
     text: &mut TextWriter<W>,
     name: &[u8],
     image: Content<A>,
     beyond: Beyond,
     file: View,
     layout: &Layout,
+    delayed: &[Import],
     leaves: &[Leaf],
     findings: &[Fault],
 )
@@ -179,6 +182,7 @@ pub(crate) fn write_image<A: Allocator + Copy, W: Sink>(
     requires own { AreNamesOf (exports_view image.exports.now) (by_ordinal_view image.names.now) }
     requires small { size_of file ≤ 2 ^ 32 }
     requires imported { map import_view image.imports.now ≡ imports_of (image_of layout.now) }
+    requires delayed { map import_view delayed.now ≡ delay_imports_of (image_of layout.now) }
     requires read { leaves.now ≡ leaves_of (image_of layout.now) }
     requires found { findings.now ≡ image_findings (bytes_of file) (headers_of layout.now) (image_of layout.now) }
     ensures { Adds W.taken W.failures text.old text.new
@@ -187,7 +191,17 @@ pub(crate) fn write_image<A: Allocator + Copy, W: Sink>(
 {
     begin(text, name, true);
     write_profile(text, image);
-    write_beyond(text, beyond, file, layout, image.imports, leaves, findings);
+    write_beyond(
+        alloc,
+        text,
+        beyond,
+        file,
+        layout,
+        image.imports,
+        delayed,
+        leaves,
+        findings,
+    );
     text.text(b"}");
     text.text(b"\n");
 }

@@ -67,7 +67,12 @@ fn write_symbol<W: Sink>(text: &mut TextWriter<W>, index: u32, symbol: &Symbol)
 }
 
 /// Adds a symbol, after a comma unless it is the first of the list.
-fn write_next<W: Sink>(text: &mut TextWriter<W>, first: bool, index: u32, symbol: &Symbol)
+pub(crate) fn write_next<W: Sink>(
+    text: &mut TextWriter<W>,
+    first: bool,
+    index: u32,
+    symbol: &Symbol,
+)
     requires { IsReady W.failures text.old }
     ensures { Adds W.taken W.failures text.old text.new (items_text first (symbol_row index (symbol_view symbol.now) ∷ [])) }
 {

@@ -335,7 +335,7 @@ static EXPLAINED: [Explained; 72] = [
 ];
 
 /// All findings, by number.
-static FINDINGS_EXPLAINED: [Explained; 57] = [
+static FINDINGS_EXPLAINED: [Explained; 68] = [
     (
         101,
         Some(
@@ -481,6 +481,53 @@ static FINDINGS_EXPLAINED: [Explained; 57] = [
         "a damaged table",
     ),
     (
+        161,
+        Some(
+            "A descriptor whose Name or Delay Import Address Table is 0 ends the table. A run is the headers or the raw data of one section. The directory's Size is not used.",
+        ),
+        "a damaged directory, or an image that was cut off in it",
+    ),
+    (
+        162,
+        Some(
+            "Bit 0 of Attributes says that the fields are RVAs. Otherwise they are addresses, which are to be in the image when it is at ImageBase.",
+        ),
+        "a damaged table",
+    ),
+    (
+        163,
+        Some(
+            "An entry has 4 bytes in PE32 and 8 in PE32+, and one of 0 ends the table. A descriptor whose name table is 0, or an address outside the image, has none: then the place is the end of the image.",
+        ),
+        "a damaged table",
+    ),
+    (
+        164,
+        Some(
+            "Of each name table the first entry that has one of findings 164 to 167 is told. A descriptor with a finding has no imports in the list of all.",
+        ),
+        "a damaged table",
+    ),
+    (
+        165,
+        Some("An ordinal has 16 bits, and the RVA of a name 31."),
+        "a damaged table, or a PE32 table in a PE32+ image",
+    ),
+    (
+        166,
+        Some(
+            "Each entry has a slot of its own in the delay import address table, of 4 bytes in PE32 and 8 in PE32+.",
+        ),
+        "a damaged table",
+    ),
+    (
+        167,
+        Some(
+            "Many descriptors may have one name table, so that a small file could name very many imports.",
+        ),
+        "only files that were made for it",
+    ),
+    (
         181,
         Some(
             "A directory begins with 16 bytes, which hold the number of its entries. No resource is read.",
@@ -607,6 +654,30 @@ static FINDINGS_EXPLAINED: [Explained; 57] = [
             "The directories are the metadata, the resources, the strong name signature, the code manager table, the vtable fixups, the export address table jumps and the managed native header.",
         ),
         "an image whose managed code was encrypted by a packer",
+    ),
+    (
+        261,
+        Some(
+            "A record has 18 bytes. The symbols of an image are those whose records the file holds.",
+        ),
+        "an image whose symbols were stripped, but not their number; or one that was cut off",
+    ),
+    (
+        262,
+        Some(
+            "The string table is behind the symbol table. Its length has four bytes, and counts itself.",
+        ),
+        "an image that was cut off in its symbols",
+    ),
+    (
+        263,
+        Some("ABSOLUTE is 0xffff, and DEBUG 0xfffe. 0 says that the symbol is undefined."),
+        "a damaged symbol table, or a pointer that leads to other bytes",
+    ),
+    (
+        264,
+        Some("Those that the table holds are told. The table ends with the file if 261 stands."),
+        "a damaged symbol table, or an image that was cut off in it",
     ),
     (
         300,

@@ -81,7 +81,17 @@ fn show_engine(rt: &impl Env, options: ShowOptions, colours: Colours, is_termina
 /// The engine of `json`.
 fn json_engine(options: Option<JsonOptions>) -> Engine<'static> {
     let beyond = match options {
-        Some(JsonOptions { functions, digests }) => Some(Beyond { functions, digests }),
+        Some(
+            JsonOptions {
+                functions,
+                symbols,
+                digests,
+            },
+        ) => Some(Beyond {
+            functions,
+            symbols,
+            digests,
+        }),
         None => None,
     };
     Engine::Json { beyond }

@@ -5,16 +5,18 @@ ghost use Rattle.pe_page.specs.Page.{AddsSome};
 
 use crate::shown_image::ShownImage;
 use crate::trust::TrustFindings;
+use pe_delay::delay_findings;
 use pe_head::directory_index;
 use pe_layout::Layout;
 use pe_page::Cell::{self, Plain};
 use pe_page::{plural, write_cells, write_finding, write_heading};
 use pe_reach::ViewFile;
-use pe_records::{DebugEntry, Records};
+use pe_records::{DebugEntry, Records, findings};
+use pe_symbols::symbol_findings;
 use pe_text::Part::Text;
 use pe_text::{ShowOptions, Sink, TextWriter};
 use pe_view::{Fault, Place};
-use std::alloc::Allocator;
+use std::alloc::{AllocError, Allocator};
 
 /// The size of an entry of the debug directory in bytes.
 const ENTRY_SIZE: u32 = 28;
@@ -40,9 +42,25 @@ fn is_unread(layout: &Layout, file: ViewFile, finding: &Fault) -> bool {
     }
 }
 
-/// Drops the findings on data that the file has after what was read of it.
-pub fn drop_unread<A: Allocator>(findings: &mut Vec<Fault, A>, layout: &Layout, file: ViewFile) {
-    findings.retain(|finding| !is_unread(layout, file, finding));
+/// The findings of the tables beyond the profile, without those on data that the file has after what was read of it, and then those of the
+/// delay-load directory table; and those of the symbol table if `symbols` says so, for which the file is to be read whole.
+///
+/// The error is that no memory is left for a finding.
+pub fn table_findings<A: Allocator + Copy>(
+    alloc: A,
+    layout: &Layout,
+    file: ViewFile,
+    symbols: bool,
+) -> Result<Vec<Fault, A>, AllocError> {
+    let bytes = file.beginning();
+    let mut all = findings(alloc, layout, bytes)?;
+    all.retain(|finding| !is_unread(layout, file, finding));
+    all.extend_from_slice(delay_findings(alloc, layout)?.as_slice())?;
+    if symbols {
+        let found = symbol_findings(alloc, layout.image(), bytes, layout.headers())?;
+        all.extend_from_slice(found.as_slice())?;
+    }
+    Ok(all)
 }
 
 /// The directory of the table that a finding is of; the Rich header has none.
@@ -53,6 +71,7 @@ fn directory_of(finding: &Fault) -> Option<usize> {
         131..=140 => Some(directory_index::TLS),
         141..=150 => Some(directory_index::LOAD_CONFIGURATION),
         151..=160 => Some(directory_index::BOUND_IMPORT),
+        161..=170 => Some(directory_index::DELAY_IMPORT),
         181..=220 => Some(directory_index::RESOURCE),
         221..=240 => Some(directory_index::CERTIFICATE),
         251..=260 => Some(directory_index::CLR),

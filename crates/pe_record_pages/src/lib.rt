@@ -19,7 +19,7 @@ mod tls;
 mod trust;
 
 pub use debug::{image_pdb, is_reproducible, write_debug};
-pub use findings::{drop_unread, write_findings};
+pub use findings::{table_findings, write_findings};
 pub use functions::{function_cells, write_functions};
 pub use load_configuration::write_load_configuration;
 pub use pdb::{Pdb, write_identity};

@@ -33,6 +33,20 @@ fn write_bound_count<W: Sink>(text: &mut TextWriter<W>, layout: &Layout)
     );
 }
 
+/// Adds the number of delay-loaded imports.
+fn write_delayed_count<W: Sink>(text: &mut TextWriter<W>, image: &ShownImage)
+    requires { IsReady W.failures text.old }
+    ensures { AddsSome W.taken W.failures text.old text.new }
+{
+    write_cells(
+        text,
+        &[
+            Cell::Count(image.delayed.len() as u64),
+            plural(image.delayed.len(), b" import", b" imports"),
+        ],
+    );
+}
+
 /// The number in field `index` of a CLR header.
 fn clr_number(header: &Structure, index: usize) -> Option<u64> {
     header.field(clr_field(index)?)
@@ -77,6 +91,7 @@ fn write_known<W: Sink>(text: &mut TextWriter<W>, image: &ShownImage, index: usi
         directory_index::TLS => write_callback_count(text, image.layout),
         directory_index::LOAD_CONFIGURATION => write_load_size(text, image.layout),
         directory_index::BOUND_IMPORT => write_bound_count(text, image.layout),
+        directory_index::DELAY_IMPORT => write_delayed_count(text, image),
         directory_index::CLR => write_runtime(text, image.layout),
         _ => text.text(b"not read"),
     }

@@ -6,8 +6,10 @@ ghost use Rattle.pe_view.specs.Standing.{Adds, tests_at};
 use pe_view::{Fault, Place};
 use std::alloc::{AllocError, Allocator};
 
-/// Adds a finding at a place for each rule that is broken. A rule is its number, and whether it is broken.
-pub(crate) fn add<A: Allocator>(
+/// Adds a finding of the image with this number, at a place, for each rule that is broken. A rule is its number, and whether it is broken.
+///
+/// The error is that no memory is left. It never comes if no rule is broken.
+pub fn add<A: Allocator>(
     findings: &mut Vec<Fault, A>,
     image: u16,
     place: Place,

@@ -32,7 +32,7 @@ mod clr_fields;
 mod debug;
 mod debug_data;
 mod exceptions;
-mod finding;
+pub mod finding;
 mod function;
 mod image_findings;
 mod load_finding;

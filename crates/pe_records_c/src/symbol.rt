@@ -32,7 +32,7 @@ pub struct ObjectSymbolRow<'a> {
 
 impl<'a> ObjectSymbolRow<'a> {
     /// A symbol as C has it.
-    fn of(index: u32, symbol: Symbol<'a>) -> ObjectSymbolRow<'a>
+    pub fn of(index: u32, symbol: Symbol<'a>) -> ObjectSymbolRow<'a>
         ensures { symbol_text result ≡ symbol_row (index, symbol_view symbol.entry) }
     {
         ObjectSymbolRow {

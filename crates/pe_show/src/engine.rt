@@ -39,7 +39,7 @@ impl<'p> ViewReport for PageReport<'p> {
     }
 
     fn needs_all(&self) -> bool {
-        self.0.options.trust
+        self.0.options.trust || self.0.options.symbols
     }
 
     fn refuse<W: Sink>(&self, text: &mut TextWriter<W>, file: ViewFile, fault: Fault) {
@@ -110,8 +110,8 @@ pub fn show_page<A: Allocator + Copy, R: Source, W: Sink>(
 /// [`show`] for a file of `len` bytes. Of an image no more is read than the bytes before the end that its headers name, and those
 /// before the end of its string table if a name of a section may be in it; the outcome is that of each file of `len` bytes that
 /// begins so. Of a file that its size or its first bytes refuse, as [`pe_reach::view_fault`] says, at most 4,096 bytes are read. An
-/// object, a file whose first 4,096 bytes do not say where that end is, and one of which the options select what it says of itself, is
-/// read whole.
+/// object, a file whose first 4,096 bytes do not say where that end is, and one of which the options select what it says of itself or its
+/// symbols, is read whole.
 ///
 /// The page, the errors and the conditions are those of [`show`].
 pub fn show_sized<A: Allocator + Copy, R: Source, W: Sink>(

@@ -10,8 +10,13 @@ use pe_text::Part::{Hex, Text};
 use pe_text::{Sink, TextWriter};
 use pe_trust::file_end;
 
+/// The end of the row of the symbol table: whether it is read.
+fn end_of(is_read: bool) -> &'static [u8] {
+    if is_read { b"\n" } else { b", not read\n" }
+}
+
 /// Adds the row of the symbol table, if there is one.
-fn write_symbol_table<W: Sink>(text: &mut TextWriter<W>, headers: &Headers)
+fn write_symbol_table<W: Sink>(text: &mut TextWriter<W>, headers: &Headers, is_read: bool)
     requires { IsReady W.failures text.old }
     ensures { AddsSome W.taken W.failures text.old text.new }
 {
@@ -27,7 +32,7 @@ fn write_symbol_table<W: Sink>(text: &mut TextWriter<W>, headers: &Headers)
             plural(count as usize, b" record", b" records"),
             Plain(Text(b" at file 0x")),
             Plain(Hex(u64::from(headers.pointer_to_symbol_table), 1)),
-            Plain(Text(b", not read\n")),
+            Plain(Text(end_of(is_read))),
         ],
     );
 }
@@ -55,11 +60,17 @@ fn write_overlay<W: Sink>(text: &mut TextWriter<W>, headers: &Headers, len: u64)
     );
 }
 
-/// Adds the rows of the symbol table and of what comes after the sections, if an image's file of `len` bytes has them.
-pub(crate) fn write_others<W: Sink>(text: &mut TextWriter<W>, headers: &Headers, len: u64)
+/// Adds the rows of the symbol table, which is read or not, and of what comes after the sections, if an image's file of `len` bytes has
+/// them.
+pub(crate) fn write_others<W: Sink>(
+    text: &mut TextWriter<W>,
+    headers: &Headers,
+    len: u64,
+    is_read: bool,
+)
     requires { IsReady W.failures text.old }
     ensures { AddsSome W.taken W.failures text.old text.new }
 {
-    write_symbol_table(text, headers);
+    write_symbol_table(text, headers, is_read);
     write_overlay(text, headers, len);
 }

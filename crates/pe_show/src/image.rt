@@ -14,18 +14,19 @@ use crate::fault::write_refusal;
 use crate::file_rows::write_others;
 use crate::fixups::write_fixups;
 use crate::header_rows::{image_kind, write_headers};
-use crate::imports::write_imports;
+use crate::image_symbols::write_image_symbols;
+use crate::imports::{write_delayed, write_imports};
 use crate::sections::write_sections;
+use pe_delay::read_delay_imports;
 use pe_image::Tables;
 use pe_layout::Layout;
 use pe_page::{Page, SectionNames, outcome_of, write_title};
 use pe_reach::{ViewFile, read_whole_tables};
 use pe_record_pages::{
-    ShownImage, drop_unread, image_pdb, is_reproducible, trust_findings, write_debug,
+    ShownImage, image_pdb, is_reproducible, table_findings, trust_findings, write_debug,
     write_findings, write_functions, write_identity, write_load_configuration, write_tls,
     write_trust,
 };
-use pe_records::findings;
 use pe_resource_pages::{ImageResources, ShownResources, write_resources};
 use pe_tables::{Import, NamesByOrdinal};
 use pe_text::Part::Text;
@@ -106,6 +107,7 @@ fn write_beyond<W: Sink>(
 
 /// Adds the page of an image that is laid out.
 fn write_image<A: Allocator + Copy, W: Sink>(
+    alloc: A,
     text: &mut TextWriter<W>,
     page: &Page,
     image: &ShownImage,
@@ -119,6 +121,7 @@ fn write_image<A: Allocator + Copy, W: Sink>(
     let ShownImage {
         layout,
         file,
+        delayed,
         resources,
         findings,
         trust,
@@ -128,7 +131,7 @@ fn write_image<A: Allocator + Copy, W: Sink>(
     let entry = names.place(layout, headers.address_of_entry_point);
     write_title(text, page, outcome, image_kind(headers), file.len());
     write_headers(text, page, headers, Some(entry), is_reproducible(layout));
-    write_others(text, headers, file.len());
+    write_others(text, headers, file.len(), page.options.symbols);
     write_identity(
         text,
         page.options,
@@ -139,8 +142,10 @@ fn write_image<A: Allocator + Copy, W: Sink>(
     write_directories(text, page, image, &names, tables);
     write_exports(text, page.options, layout, &names, tables, names_by_ordinal);
     write_imports(text, page.options, tables);
+    write_delayed(text, page.options, delayed);
     write_fixups(text, page.options, tables);
     write_beyond(text, page.options, image, &names);
+    write_image_symbols(alloc, text, page.options, file, headers, &names);
     write_trust(text, page.options, file, headers, imports_read(tables));
     write_findings(text, page.options, findings, trust);
     write_refusal(text, page.options, outcome, file);
@@ -164,13 +169,14 @@ pub(crate) fn show_image<A: Allocator + Copy, W: Sink>(
         Ok(layout) => {
             let tables = read_whole_tables(alloc, &layout)?;
             let names = order_names(alloc, &tables, page.options.exports)?;
-            let mut findings = findings(alloc, &layout, file.beginning())?;
-            drop_unread(&mut findings, &layout, file);
+            let delayed = read_delay_imports(alloc, &layout)?;
+            let mut findings = table_findings(alloc, &layout, file, page.options.symbols)?;
             let resources = ImageResources::read(alloc, &layout, &mut findings)?;
             let trust = trust_findings(page.options, file, layout.headers());
             let image = ShownImage {
                 layout: &layout,
                 file,
+                delayed: delayed.as_slice(),
                 resources: ShownResources {
                     leaves: resources.leaves.as_slice(),
                     version: resources.version,
@@ -179,7 +185,7 @@ pub(crate) fn show_image<A: Allocator + Copy, W: Sink>(
                 findings: findings.as_slice(),
                 trust: &trust,
             };
-            write_image(text, page, &image, &tables, &names);
+            write_image(alloc, text, page, &image, &tables, &names);
             Ok(outcome_of(tables.fault))
         }
         Err(fault) => {

@@ -71,6 +71,29 @@ fn write_module<W: Sink>(text: &mut TextWriter<W>, width: u8, imports: &[Import]
     }
 }
 
+/// Adds imports under their modules, and a heading before them.
+fn write_listed<W: Sink>(
+    text: &mut TextWriter<W>,
+    options: &ShowOptions,
+    title: &[u8],
+    imports: &[Import],
+)
+    requires { IsReady W.failures text.old }
+    ensures { AddsSome W.taken W.failures text.old text.new }
+{
+    let width = imports.iter().fold(
+        6,
+        |width, import| hex_width(u64::from(import.slot)).max(width),
+    );
+    write_heading(text, options, title, imports.len());
+    let mut at = 0;
+    while at < imports.len() {
+        let len = module_len(&imports[at..]);
+        write_module(text, width, &imports[at..at + len]);
+        at += len;
+    }
+}
+
 /// Adds the imports under their modules, if the options select them and they were read.
 pub(crate) fn write_imports<A: Allocator + Copy, W: Sink>(
     text: &mut TextWriter<W>,
@@ -80,19 +103,21 @@ pub(crate) fn write_imports<A: Allocator + Copy, W: Sink>(
     requires { IsReady W.failures text.old }
     ensures { AddsSome W.taken W.failures text.old text.new }
 {
-    let (Some(imports), true) = (&tables.imports, options.imports) else {
-        return;
-    };
-    let imports = imports.as_slice();
-    let width = imports.iter().fold(
-        6,
-        |width, import| hex_width(u64::from(import.slot)).max(width),
-    );
-    write_heading(text, options, b"Imports", imports.len());
-    let mut at = 0;
-    while at < imports.len() {
-        let len = module_len(&imports[at..]);
-        write_module(text, width, &imports[at..at + len]);
-        at += len;
+    if let (Some(imports), true) = (&tables.imports, options.imports) {
+        write_listed(text, options, b"Imports", imports.as_slice());
+    }
+}
+
+/// Adds the delay-loaded imports under their modules, if the options select imports and there are any.
+pub(crate) fn write_delayed<W: Sink>(
+    text: &mut TextWriter<W>,
+    options: &ShowOptions,
+    delayed: &[Import],
+)
+    requires { IsReady W.failures text.old }
+    ensures { AddsSome W.taken W.failures text.old text.new }
+{
+    if options.imports && !delayed.is_empty() {
+        write_listed(text, options, b"Delay-loaded imports", delayed);
     }
 }

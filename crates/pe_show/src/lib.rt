@@ -26,6 +26,7 @@ mod file_rows;
 mod fixups;
 mod header_rows;
 mod image;
+mod image_symbols;
 mod imports;
 mod object;
 mod object_sections;

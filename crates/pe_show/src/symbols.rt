@@ -16,7 +16,7 @@ use pe_text::{ShowOptions, Sink, TextWriter};
 use std::alloc::{AllocError, Allocator};
 
 /// The name of a symbol's section, or a word for symbols outside sections.
-fn section_words<'a>(sections: &[FileSection<'a>], section: SymbolSection) -> &'a [u8] {
+pub(crate) fn section_words<'a>(sections: &[FileSection<'a>], section: SymbolSection) -> &'a [u8] {
     match section {
         SymbolSection::Undefined => b"UNDEFINED",
         SymbolSection::Absolute => b"ABSOLUTE",
@@ -31,7 +31,7 @@ fn section_words<'a>(sections: &[FileSection<'a>], section: SymbolSection) -> &'
 }
 
 /// The number of a symbol's section, if it has one.
-fn number_of(section: SymbolSection) -> Option<u16> {
+pub(crate) fn number_of(section: SymbolSection) -> Option<u16> {
     match section {
         SymbolSection::Section(number) => Some(number),
         _ => None,
@@ -76,13 +76,13 @@ fn function_word(kind: u16) -> &'static [u8]
 
 /// The widths of the columns of symbols: of indices, and of the numbers of sections.
 #[derive(Clone, Copy)]
-struct Widths {
-    index: usize,
-    number: usize,
+pub(crate) struct Widths {
+    pub index: usize,
+    pub number: usize,
 }
 
 /// Adds the row of a symbol.
-fn write_symbol<W: Sink>(
+pub(crate) fn write_symbol<W: Sink>(
     text: &mut TextWriter<W>,
     widths: Widths,
     index: u32,

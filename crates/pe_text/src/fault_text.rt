@@ -311,7 +311,7 @@ static RULES: [(u16, &str, &str); 72] = [
 ];
 
 /// The words of each finding, as [`RULES`] has those of faults.
-static FINDING_RULES: [(u16, &str, &str); 57] = [
+static FINDING_RULES: [(u16, &str, &str); 68] = [
     (
         101,
         "debug directory",
@@ -435,6 +435,41 @@ static FINDING_RULES: [(u16, &str, &str); 57] = [
         "the name of its module is not in the image",
     ),
     (
+        161,
+        "delay-load directory table",
+        "no descriptor ends it in the bytes that the file holds of it in one run",
+    ),
+    (
+        162,
+        "delay-load descriptor",
+        "its name does not point to a null-terminated string",
+    ),
+    (
+        163,
+        "delay import name table",
+        "its next entry is not entirely inside the image",
+    ),
+    (
+        164,
+        "delay import name table",
+        "an entry does not point to a null-terminated name",
+    ),
+    (
+        165,
+        "delay import name table",
+        "bits of an entry that are to be 0 are not",
+    ),
+    (
+        166,
+        "delay import name table",
+        "the slot of an entry in the delay import address table is not entirely inside the image",
+    ),
+    (
+        167,
+        "delay import name table",
+        "it goes on after the 1,048,576 entries that are read of an image",
+    ),
+    (
         181,
         "resource directory",
         "the file does not hold the first 16 bytes of the root",
@@ -525,6 +560,22 @@ static FINDING_RULES: [(u16, &str, &str); 57] = [
         252,
         "CLR header",
         "one of its directories extends past the end of the image",
+    ),
+    (
+        261,
+        "symbol table",
+        "its records extend past the end of the file",
+    ),
+    (262, "string table", "the file does not hold all of it"),
+    (
+        263,
+        "symbol",
+        "its section number is neither that of a section nor ABSOLUTE or DEBUG",
+    ),
+    (
+        264,
+        "symbol",
+        "its auxiliary records extend past the end of the symbol table",
     ),
     (
         300,

@@ -1,4 +1,4 @@
-//! `TextWriter`: writes numbers and quoted strings to a sink, in pieces of at most 256 bytes.
+//! `TextWriter`: writes numbers and quoted strings to a sink, in pieces of at most 1,024 bytes.
 
 ghost use Rattle.std.specs.Prelude.{◌≡◌, ◌+◌, ◌-◌, ◌^◌, ◌<◌, ◌≤◌, length, take, slice_index_or, [], decimal, flat_map, ℕ, List, true, false};
 ghost use Rattle.pe_text.specs.TextWriter.{WritesAll, Finishes};
@@ -21,14 +21,14 @@ fn digit(number: u64) -> u8
     b'0' + number as u8
 }
 
-/// Writes text to a sink in pieces of at most 256 bytes.
+/// Writes text to a sink in pieces of at most 1,024 bytes.
 ///
 /// A call adds to the text and allocates nothing; the sink is called only if the array is full, and at the end of the text. After a
 /// failed write nothing more is written, and [`TextWriter::finish`] returns an error.
 #[derive(Drop)]
 pub struct TextWriter<'w, W: Sink> {
     writer: &'w mut W,
-    held: ArrayVec<u8, 256>,
+    held: ArrayVec<u8, 1024>,
     failed: bool,
 }
 
@@ -109,7 +109,7 @@ impl<'w, W: Sink> TextWriter<'w, W> {
     fn make_room(&mut self)
         requires { IsReady W.failures self.old }
         ensures adds { Adds W.taken W.failures self.old self.new [] }
-        ensures room { length self.new.held.items < 256 }
+        ensures room { length self.new.held.items < 1024 }
     {
         if !self.held.is_full() {
             return;

@@ -14,6 +14,6 @@ is_of_part is_late f = if is_late then nat_lt LAST f.number else not (nat_lt LAS
 abbrev pub part_of : Bool → List Fault → List Fault
 part_of is_late found = filter (is_of_part is_late) found
 
--- findings of tables with others between them, by number: those of the resources, and then those on what a file says of itself
+-- findings of tables with others between them, by number: those of two tables, and then those on what a file says of itself
 abbrev pub with_between : List Fault → List Fault → List Fault → List Fault
-with_between found resources own = ((part_of false found ++ resources) ++ own) ++ part_of true found
+with_between found between own = ((part_of false found ++ between) ++ own) ++ part_of true found

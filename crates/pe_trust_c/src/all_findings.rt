@@ -62,21 +62,22 @@ fn put_all(rows: &mut [FaultRecord], start: usize, found: &[Fault]) -> usize
     start + found.len()
 }
 
-/// Reports all findings of an image's file, given those of its resources and those of its other tables: fills the rows, counts the
+/// Reports all findings of an image's file, given those of its delay-load directory table and of its resources, and those of its other
+/// tables: fills the rows, counts the
 /// findings, and returns the status, 0 or 4.
 pub fn tell_all_findings(
     found: &[Fault],
-    resources: &[Fault],
+    between: &[Fault],
     file: View,
     headers: &Headers,
     rows: &mut [FaultRecord],
     count: &mut usize,
 ) -> u32
-    ensures { TellsTable (λ row. row) fault_record (with_between found.now resources.now (trust_findings_of (bytes_of file.entry) headers.now)) rows.old rows.new count.new result }
+    ensures { TellsTable (λ row. row) fault_record (with_between found.now between.now (trust_findings_of (bytes_of file.entry) headers.now)) rows.old rows.new count.new result }
 {
     let early = put_part(rows, 0, found, false);
-    let between = put_all(rows, early, resources);
-    let own = put_findings(rows, between, &findings_in(file, headers));
+    let middle = put_all(rows, early, between);
+    let own = put_findings(rows, middle, &findings_in(file, headers));
     *count = put_part(rows, own, found, true);
     table_status(*count, rows.len())
 }

@@ -21,7 +21,7 @@ pub(crate) struct FileCommand {
     file: &'static str,
     /// Whether it takes several files.
     takes_several: bool,
-    /// Whether it has the options for what is beyond the profile: `--all`, `--functions` and `--no-digest`.
+    /// Whether it has the options for what is beyond the profile: `--all`, `--functions`, `--symbols` and `--no-digest`.
     has_beyond: bool,
     /// Whether it has the options for one member and for a new archive: `--extract`, `--index` and `--create`.
     has_members: bool,
@@ -100,10 +100,13 @@ pub(crate) const FILE_COMMANDS: [FileCommand; 6] = [
 
 /// The help on `--all` of `json`.
 const ALL: &str =
-    "Adds debug data, the PDB file, the number of functions, TLS, the load configuration, bound imports, the CLR header, resources, version information, the manifest, CheckSum as it is to be, certificates, what comes after the image, the Rich header, and the findings in these";
+    "Adds debug data, the PDB file, the number of functions, TLS, the load configuration, bound imports, the CLR header, delay-loaded imports, resources, version information, the manifest, CheckSum as it is to be, certificates, what comes after the image, the Rich header, and the findings in these";
 
 /// The help on `--functions` of `json`.
 const FUNCTIONS: &str = "Adds each function of the exception table too, to what --all adds";
+
+/// The help on `--symbols` of `json`.
+const SYMBOLS: &str = "Adds each symbol of an image too, to what --all adds";
 
 /// The help on `--no-digest`.
 const NO_DIGEST: &str = "Leaves out of this what the whole file is added up or hashed for";
@@ -119,12 +122,15 @@ const COLOR: &str =
 /// The options of `show` that add rows, each with its help.
 const SHOW_OPTIONS: [(&str, &str); 11] = [
     ("exports", "Prints each export"),
-    ("imports", "Prints each import"),
+    (
+        "imports",
+        "Prints each import, also those that are delay-loaded",
+    ),
     (
         "relocations",
         "Prints each base relocation, or each relocation of an object",
     ),
-    ("symbols", "Prints each symbol of an object"),
+    ("symbols", "Prints each symbol of an object or an image"),
     ("debug", "Prints each entry of the debug directory"),
     ("functions", "Prints each function of the exception table"),
     ("tls", "Prints the TLS directory and its callbacks"),
@@ -164,6 +170,7 @@ fn unlimited_command<'a>(alloc: Global, row: FileCommand) -> Result<Command<'a>,
     if row.has_beyond {
         let command = with_argument(command, flag(alloc, "all", ALL));
         let command = with_argument(command, flag(alloc, "functions", FUNCTIONS));
+        let command = with_argument(command, flag(alloc, "symbols", SYMBOLS));
         with_argument(command, flag(alloc, "no-digest", NO_DIGEST))
     } else if row.has_members {
         with_member_options(alloc, command)
@@ -329,14 +336,16 @@ fn show_job<'a, P>(
     }
 }
 
-/// What `json` tells beyond the profile: all or nothing, and each function if they are asked for.
+/// What `json` tells beyond the profile: all or nothing, and each function and each symbol if they are asked for.
 fn beyond_of(found: &ArgMatches) -> Option<JsonOptions> {
     let functions = found.get_flag("functions");
-    if !found.get_flag("all") && !functions {
+    let symbols = found.get_flag("symbols");
+    if !found.get_flag("all") && !functions && !symbols {
         return None;
     }
     Some(JsonOptions {
         functions,
+        symbols,
         digests: !found.get_flag("no-digest"),
     })
 }

@@ -40,6 +40,8 @@ pub enum AtPlace {
 pub struct JsonOptions {
     /// Each function of the exception table.
     pub functions: bool,
+    /// Each symbol of the image.
+    pub symbols: bool,
     /// CheckSum as it is to be, and digests.
     pub digests: bool,
 }

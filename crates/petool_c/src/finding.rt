@@ -39,8 +39,8 @@ pub extern "C" fn petool_findings(
     match table_findings(alloc, &layout, view) {
         Ok(found) => {
             let others = found.others.as_slice();
-            let resources = found.resources.as_slice();
-            tell_all_findings(others, resources, view, layout.headers(), rows, count)
+            let between = found.between.as_slice();
+            tell_all_findings(others, between, view, layout.headers(), rows, count)
         }
         Err(_) => status::MEMORY,
     }

@@ -1277,6 +1277,22 @@ extern "C" {
         count: *mut usize,
         fault: *mut Fault,
     ) -> u32;
+    pub fn petool_delay_imports(
+        file: *const u8,
+        len: usize,
+        rows: *mut Import,
+        room: usize,
+        count: *mut usize,
+        fault: *mut Fault,
+    ) -> u32;
+    pub fn petool_image_symbols(
+        file: *const u8,
+        len: usize,
+        rows: *mut ObjectSymbol,
+        room: usize,
+        count: *mut usize,
+        fault: *mut Fault,
+    ) -> u32;
     pub fn petool_clr(
         file: *const u8,
         len: usize,

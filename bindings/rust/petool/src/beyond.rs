@@ -1,8 +1,11 @@
 //! The tables of an image beyond the profile: debug data, functions, TLS, structures of fields, bound imports, and findings.
 //! No rule of theirs refuses an image.
 
+use crate::object::translated;
 use crate::rows::{rows_of, text_of, RowsCall};
-use crate::{ClrHeader, DebugEntry, Fault, Function, Image, LoadConfiguration, OutOfMemory, TlsDirectory};
+use crate::{
+    ClrHeader, DebugEntry, Fault, Function, Image, Import, LoadConfiguration, OutOfMemory, Symbol, TlsDirectory,
+};
 use petool_sys as sys;
 
 /// What tells a PDB file from others of its name.
@@ -121,6 +124,19 @@ impl<'a> Image<'a> {
             forwarder_count: row.number_of_module_forwarder_refs,
         };
         Ok(rows.into_iter().map(of).collect())
+    }
+
+    /// What it imports when it first calls it, in the order of its delay-load directory table: the imports of each descriptor that has
+    /// none of the findings 162 to 167.
+    pub fn delay_imports(&self) -> Result<Vec<Import<'a>>, OutOfMemory> {
+        let rows = self.rows_by(sys::Import::NONE, sys::petool_delay_imports)?;
+        Ok(rows.iter().map(|row| Import::of(self.file(), row)).collect())
+    }
+
+    /// Its COFF symbols, in the order of their table: those whose records the file holds. A name that leads to no string is empty.
+    pub fn symbols(&self) -> Result<Vec<Symbol<'a>>, OutOfMemory> {
+        let rows = self.rows_by(sys::ObjectSymbol::NONE, sys::petool_image_symbols)?;
+        translated(&rows, Symbol::NONE, |row| Symbol::of(self.file(), row))
     }
 
     /// The rules of these tables, of the certificate table and of the Rich header that are broken, by table in the order of their

@@ -95,7 +95,7 @@ impl<'a> ObjectSection<'a> {
 }
 
 impl<'a> Symbol<'a> {
-    const NONE: Symbol<'a> = Symbol {
+    pub(crate) const NONE: Symbol<'a> = Symbol {
         name: &[],
         aux: &[],
         index: 0,
@@ -105,7 +105,7 @@ impl<'a> Symbol<'a> {
         class: 0,
     };
 
-    fn of(file: &'a [u8], raw: &sys::ObjectSymbol) -> Symbol<'a> {
+    pub(crate) fn of(file: &'a [u8], raw: &sys::ObjectSymbol) -> Symbol<'a> {
         Symbol {
             name: text_of(file, raw.name),
             aux: text_of(file, raw.aux),
@@ -269,7 +269,11 @@ impl<'a> Object<'a> {
 /// A call that reads a table of an object.
 type ReadsObject<Row> = unsafe extern "C" fn(*const u8, usize, *mut Row, usize, *mut usize, *mut sys::Fault) -> u32;
 
-fn translated<Raw, Row: Copy>(rows: &[Raw], blank: Row, one: impl Fn(&Raw) -> Row) -> Result<Vec<Row>, OutOfMemory> {
+pub(crate) fn translated<Raw, Row: Copy>(
+    rows: &[Raw],
+    blank: Row,
+    one: impl Fn(&Raw) -> Row,
+) -> Result<Vec<Row>, OutOfMemory> {
     let mut all = room_of(blank, rows.len())?;
     for (to, from) in all.iter_mut().zip(rows) {
         *to = one(from);

@@ -2,7 +2,8 @@
 //! 0x1000 and at 0x200 of the file, and SizeOfImage is 0x3000.
 
 use petool::{
-    name_of, BoundImport, ClrField, DebugEntry, Error, Function, Image, LoadField, Named, PdbSignature, Place,
+    name_of, BoundImport, ClrField, DebugEntry, Error, Function, Image, Import, Key, LoadField, Named, PdbSignature,
+    Place, Symbol,
 };
 
 const V1: &[u8] = include_bytes!("../../../../crates/test_cases/data/v1.dll");
@@ -185,6 +186,57 @@ fn bound_imports() -> Result<(), Error> {
 }
 
 #[test]
+fn delay_imports() -> Result<(), Error> {
+    // a descriptor and one of zeros, the name of its module at 0x1040, its name table at 0x1050, its address table at 0x1060, and a name
+    // with its hint at 0x1070
+    let mut table = numbers(&[1, 0x1040, 0x5555, 0x1060, 0x1050, 0x6666, 0x7777, 0x8888]);
+    table.resize(0x40, 0);
+    table.extend_from_slice(b"a.dll\0");
+    table.resize(0x50, 0);
+    table.extend(numbers(&[0x8000_0507, 0x1070, 0]));
+    table.resize(0x70, 0);
+    table.extend_from_slice(b"\xff\xffSleep\0");
+    let file = with_section(13, 64, 0x14c, &table);
+    let row = |key, slot| Import {
+        module: &b"a.dll"[..],
+        key,
+        slot,
+    };
+    let wanted = [row(Key::Ordinal(0x507), 0x1060), row(Key::Name(&b"Sleep"[..]), 0x1064)];
+    assert_eq!(Image::new(&file)?.delay_imports()?, wanted);
+    Ok(())
+}
+
+#[test]
+fn symbols() -> Result<(), Error> {
+    // a record whose auxiliary record is after it, and the length of a string table without a string
+    let mut table = b"eightlet\x11\x12\x13\x14\x21\x22\x31\x32\x41\x01".to_vec();
+    table.extend(0x50..0x62);
+    table.extend(numbers(&[4]));
+    let mut file = with_section(15, 0, 0x14c, &table);
+    file[0x4c..0x54].copy_from_slice(&numbers(&[0x200, 2]));
+    let aux: Vec<u8> = (0x50..0x62).collect();
+    let wanted = [Symbol {
+        name: &b"eightlet"[..],
+        aux: &aux,
+        index: 0,
+        value: 0x14131211,
+        section_number: 0x2221,
+        kind: 0x3231,
+        class: 0x41,
+    }];
+    let image = Image::new(&file)?;
+    assert_eq!(image.symbols()?, wanted);
+    // its section is none of the image's
+    let found = image.findings()?;
+    assert_eq!(
+        found.iter().map(|it| (it.number, it.place)).collect::<Vec<_>>(),
+        [(263, Place::File(0x200))]
+    );
+    Ok(())
+}
+
+#[test]
 fn findings() -> Result<(), Error> {
     // the first function ends before it begins, and the second begins before it
     let file = with_section(
@@ -217,5 +269,6 @@ fn an_image_without_these_tables() -> Result<(), Error> {
         ),
         (None, None, None, vec![])
     );
+    assert_eq!((image.delay_imports()?, image.symbols()?), (vec![], vec![]));
     Ok(())
 }

@@ -95,6 +95,8 @@ fn ask_beyond(image: &Image<'_>) {
     image.load_configuration().unwrap();
     image.clr().unwrap();
     image.bound_imports().unwrap();
+    image.delay_imports().unwrap();
+    image.symbols().unwrap();
 }
 
 /// What a file says of itself is read of any file whose headers have no fault.

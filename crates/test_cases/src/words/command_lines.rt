@@ -80,8 +80,15 @@ fn print_json<R: Print>(
     most: Option<u64>,
     files: &[String],
 ) -> Option<()> {
-    if let Some(JsonOptions { functions, digests }) = beyond {
-        println!(rt; "all functions {functions} digests {digests}").ok()?;
+    if let Some(
+        JsonOptions {
+            functions,
+            symbols,
+            digests,
+        },
+    ) = beyond
+    {
+        println!(rt; "all functions {functions} symbols {symbols} digests {digests}").ok()?;
     }
     print_most(rt, most)?;
     print_files(rt, "json", files)

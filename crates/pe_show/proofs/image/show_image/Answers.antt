@@ -22,6 +22,11 @@ returns-in_err-names-in-Ok-clause-reads g c =
     let p = err_from_is_err_and c.from_residual-in_err-names-in-Ok.result c.from_residual-in_err-names-in-Ok.ensures.1 in
     rw p.1 (has_bytes 0 (seen_of c.args.file) c.in-Ok.ensures.0)
 
+pub returns-in_err-delayed-in-Ok-clause-reads : goal.returns-in_err-delayed-in-Ok-clause-reads
+returns-in_err-delayed-in-Ok-clause-reads g c =
+    let p = err_from_is_err_and c.from_residual-in_err-delayed-in-Ok.result c.from_residual-in_err-delayed-in-Ok.ensures.1 in
+    rw p.1 (has_bytes 0 (seen_of c.args.file) c.in-Ok.ensures.0)
+
 pub returns-in_err-findings-in-Ok-clause-reads : goal.returns-in_err-findings-in-Ok-clause-reads
 returns-in_err-findings-in-Ok-clause-reads g c =
     let p = err_from_is_err_and c.from_residual-in_err-findings-in-Ok.result c.from_residual-in_err-findings-in-Ok.ensures.1 in

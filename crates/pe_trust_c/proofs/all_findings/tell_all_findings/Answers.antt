@@ -12,63 +12,63 @@ use Rattle.pe_trust_c.proofs.FilledRows.{filled_none}
 use Rattle.pe_trust_c.proofs.PresentFaults.{present_few}
 use Rattle.pe_trust_c.proofs.all_findings.tell_all_findings.Goals as goal
 
-pub put_all-between-requires : goal.put_all-between-requires
-put_all-between-requires c =
+pub put_all-middle-requires : goal.put_all-middle-requires
+put_all-middle-requires c =
     let few = few_filtered (is_of_part false) c.args.found.now in
     let early = c.put_part-early.ensures.count in
     let short : length c.args.found.now < 2 ^ 62 = search rules in
-    let small : length c.args.resources.now < 2 ^ 62 = search rules in
+    let small : length c.args.between.now < 2 ^ 62 = search rules in
     omega (arith, few, early, short, small)
 
 pub put_findings-own-requires : goal.put_findings-own-requires
 put_findings-own-requires c =
     let few = few_filtered (is_of_part false) c.args.found.now in
     let early = c.put_part-early.ensures.count in
-    let between = c.put_all-between.ensures.count in
+    let middle = c.put_all-middle.ensures.count in
     let short : length c.args.found.now < 2 ^ 62 = search rules in
-    let small : length c.args.resources.now < 2 ^ 62 = search rules in
-    omega (arith, few, early, between, short, small)
+    let small : length c.args.between.now < 2 ^ 62 = search rules in
+    omega (arith, few, early, middle, short, small)
 
 pub put_part-requires : goal.put_part-requires
 put_part-requires c =
     let few = few_filtered (is_of_part false) c.args.found.now in
     let early = c.put_part-early.ensures.count in
-    let between = c.put_all-between.ensures.count in
+    let middle = c.put_all-middle.ensures.count in
     let own = present_few c.findings_in.result in
     let five : length c.findings_in.result ≡ 5 = search rules in
     let told = c.put_findings-own.ensures.count in
     let short : length c.args.found.now < 2 ^ 62 = search rules in
-    let small : length c.args.resources.now < 2 ^ 62 = search rules in
-    omega (arith, few, early, between, own, five, told, short, small)
+    let small : length c.args.between.now < 2 ^ 62 = search rules in
+    omega (arith, few, early, middle, own, five, told, short, small)
 
 pub returns : goal.returns
 returns c =
     let found = c.args.found.now in
-    let resources = c.args.resources.now in
+    let between = c.args.between.now in
     let before = part_of false found in
     let own = trust_findings_of (bytes_of c.args.file) c.args.headers.now in
     let own_is : present c.findings_in.result ≡ own = ap present c.findings_in.ensures in
     let old = c.args.rows.now in
     let early = c.put_part-early.ensures in
-    let between = c.put_all-between.ensures in
+    let middle = c.put_all-middle.ensures in
     let told = c.put_findings-own.ensures in
     let late = c.put_part.ensures in
     let start = early.count in
     let early_count : c.put_part-early.result ≡ length before = omega (arith, start) in
     let first : c.put_part-early.new.rows ≡ filled fault_record before old = early.rows [] old refl (sym (filled_none fault_record old)) in
-    let second : c.put_all-between.new.rows ≡ filled fault_record (before ++ resources) old = between.rows before old (sym early_count) first in
-    let two : length (before ++ resources) ≡ c.put_all-between.result =
-    length-append before resources ∙ ap (λ (n : ℕ). n + length resources) (sym early_count) ∙ sym between.count in
-    let third : c.put_findings-own.new.rows ≡ filled fault_record ((before ++ resources) ++ own) old =
-    told.rows (before ++ resources) old two second ∙ ap (λ (faults : List Fault). filled fault_record ((before ++ resources) ++ faults) old) own_is in
-    let three : length ((before ++ resources) ++ own) ≡ c.put_findings-own.result =
-    length-append (before ++ resources) own ∙ ap (λ (n : ℕ). length (before ++ resources) + n) (ap length (sym own_is))
+    let second : c.put_all-middle.new.rows ≡ filled fault_record (before ++ between) old = middle.rows before old (sym early_count) first in
+    let two : length (before ++ between) ≡ c.put_all-middle.result =
+    length-append before between ∙ ap (λ (n : ℕ). n + length between) (sym early_count) ∙ sym middle.count in
+    let third : c.put_findings-own.new.rows ≡ filled fault_record ((before ++ between) ++ own) old =
+    told.rows (before ++ between) old two second ∙ ap (λ (faults : List Fault). filled fault_record ((before ++ between) ++ faults) old) own_is in
+    let three : length ((before ++ between) ++ own) ≡ c.put_findings-own.result =
+    length-append (before ++ between) own ∙ ap (λ (n : ℕ). length (before ++ between) + n) (ap length (sym own_is))
     ∙ ap (λ (n : ℕ). n + length (present c.findings_in.result)) two ∙ sym told.count in
-    let fourth : c.put_part.new.rows ≡ filled fault_record (((before ++ resources) ++ own) ++ part_of true found) old = late.rows ((before ++ resources) ++ own) old three third in
-    let counted : c.put_part.result ≡ length (((before ++ resources) ++ own) ++ part_of true found) =
-    late.count ∙ ap (λ (n : ℕ). n + length (part_of true found)) (sym three) ∙ sym (length-append ((before ++ resources) ++ own) (part_of true found)) in
+    let fourth : c.put_part.new.rows ≡ filled fault_record (((before ++ between) ++ own) ++ part_of true found) old = late.rows ((before ++ between) ++ own) old three third in
+    let counted : c.put_part.result ≡ length (((before ++ between) ++ own) ++ part_of true found) =
+    late.count ∙ ap (λ (n : ℕ). n + length (part_of true found)) (sym three) ∙ sym (length-append ((before ++ between) ++ own) (part_of true found)) in
     record {
-      rows = map-id c.put_part.new.rows ∙ fourth ∙ ap (filled fault_record (((before ++ resources) ++ own) ++ part_of true found)) (sym (map-id old));
+      rows = map-id c.put_part.new.rows ∙ fourth ∙ ap (filled fault_record (((before ++ between) ++ own) ++ part_of true found)) (sym (map-id old));
       count_is = counted;
       status_is = search (rules, counted);
     }

@@ -1,6 +1,6 @@
 use Rattle.std.proofs.Common.{arith}
 use Rattle.pe_page.proofs.Adding.{◌and◌}
-use Rattle.pe_show.proofs.imports.write_imports.Goals as goal
+use Rattle.pe_show.proofs.imports.write_listed.Goals as goal
 
 pub loop-at-preserved : goal.loop-at-preserved
 loop-at-preserved g c = record {

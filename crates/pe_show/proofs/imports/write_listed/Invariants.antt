@@ -1,7 +1,7 @@
 use Rattle.std.proofs.Common.{length, ◌≤◌, ◌-◌}
 use Rattle.pe_text.specs.TextWriter.{IsReady}
 use Rattle.pe_page.specs.Page.{AddsSome}
-use Rattle.pe_show.proofs.imports.write_imports.Given as goal
+use Rattle.pe_show.proofs.imports.write_listed.Given as goal
 
 abbrev pub invariant-loop-at : goal.invariant-loop-at
 invariant-loop-at g l = record {

@@ -1,0 +1,7 @@
+pub mod AsImports
+pub mod Choices
+pub mod Found
+pub mod Rows
+pub mod Steps
+pub mod Walks
+pub mod Whole

@@ -1,0 +1,11 @@
+pub use Rattle.pe_view.specs.Faults
+pub use Rattle.pe_view.specs.Standing
+pub use Rattle.pe_layout.specs.Image
+pub use Rattle.pe_layout.specs.Layout
+pub mod Descriptors
+pub mod Entries
+pub mod Findings
+pub mod Imports
+pub mod Left
+pub mod Tables
+pub mod Walk

@@ -1,0 +1,1 @@
+pub use Rattle.pe_view.specs.View
