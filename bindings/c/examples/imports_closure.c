@@ -1,7 +1,8 @@
 /*
- * Who exports what a program imports: imports_closure PROGRAM FOLDER
+ * Who exports what a program imports: imports_closure [--delayed] PROGRAM FOLDER
  *
- * Follows the imports of a program, and those of each DLL of a folder to which they lead, through all forwarders.
+ * Follows the imports of a program, and those of each DLL of a folder to which they lead, through all forwarders; with --delayed also
+ * those that are delay-loaded.
  */
 #define _POSIX_C_SOURCE 200809L
 #include "files.h"
@@ -15,8 +16,9 @@
 #define MOST_FORWARDERS 32
 
 static const char usage[] =
-    "usage: imports_closure PROGRAM FOLDER\n\n"
-    "Shows who exports what a program imports: follows its imports, and those of each DLL of a folder that they lead to.\n"
+    "usage: imports_closure [--delayed] PROGRAM FOLDER\n\n"
+    "Shows who exports what a program imports: follows its imports, and those of each DLL of a folder that they lead to;\n"
+    "with --delayed also those that are delay-loaded.\n"
     "A DLL that is refused is reported on standard error, and counts as missing.\n";
 
 /* An image: the program, or a file of the folder, which is read when it is first needed. Its file is kept while it is open. */
@@ -25,14 +27,15 @@ typedef struct module {
     petool_text file;
     petool_image image;
     petool_import *imports;
-    size_t import_count;
+    size_t import_count; /* with those that are delay-loaded, if they are followed */
     bool is_asked, is_met;
 } module;
 
 typedef struct folder {
     module *modules;
     size_t count;
-    int status; /* the worst exit status so far */
+    int status;      /* the worst exit status so far */
+    bool is_delayed; /* whether delay-loaded imports are followed */
 } folder;
 
 /* What is searched for: a name or an ordinal of a module. */
@@ -44,22 +47,35 @@ typedef struct search {
 
 /* ---- images ---- */
 
-/* Makes rows for the imports of an open image, and fills them. */
-static uint32_t read_imports(module *module)
+/* Reads the delay-loaded imports of an open image into rows, if they are to be read, and counts them. */
+static uint32_t read_delayed(const module *module, bool is_delayed, petool_import *rows, size_t room, size_t *count)
 {
-    /* without rows the call only counts */
-    uint32_t status = petool_image_imports(&module->image, NULL, 0, &module->import_count);
-    if (status != PETOOL_SMALL)
+    petool_fault fault;
+    *count = 0;
+    return is_delayed ? petool_delay_imports(module->file.at, module->file.len, rows, room, count, &fault) : (uint32_t)PETOOL_OK;
+}
+
+/* Makes rows for the imports of an open image, and fills them. */
+static uint32_t read_imports(module *module, bool is_delayed)
+{
+    size_t count = 0, delayed = 0;
+    /* without rows a call only counts */
+    uint32_t status = petool_image_imports(&module->image, NULL, 0, &count);
+    if (status == PETOOL_OK || status == PETOOL_SMALL)
+        status = read_delayed(module, is_delayed, NULL, 0, &delayed);
+    if (status != PETOOL_OK && status != PETOOL_SMALL)
         return status;
-    module->imports = (petool_import *)malloc(module->import_count * sizeof *module->imports);
+    module->import_count = count + delayed;
+    module->imports = (petool_import *)malloc((module->import_count + 1) * sizeof *module->imports);
     if (module->imports == NULL)
         return PETOOL_MEMORY;
     petool_imports_init(module->imports, module->import_count);
-    return petool_image_imports(&module->image, module->imports, module->import_count, &module->import_count);
+    status = petool_image_imports(&module->image, module->imports, count, &count);
+    return status == PETOOL_OK ? read_delayed(module, is_delayed, module->imports + count, delayed, &delayed) : status;
 }
 
 /* Reads and opens an image, unless that was tried before; returns the exit status. */
-static int open_module(module *module)
+static int open_module(module *module, bool is_delayed)
 {
     petool_fault fault = {0, 0, 0, 0};
     uint32_t status;
@@ -70,7 +86,7 @@ static int open_module(module *module)
         return DEVICE_FAILED;
     status = petool_image_open(&module->image, module->file.at, module->file.len, &fault);
     if (status == PETOOL_OK)
-        status = read_imports(module);
+        status = read_imports(module, is_delayed);
     if (status == PETOOL_OK)
         return 0;
     petool_image_close(&module->image);
@@ -166,7 +182,7 @@ static module *image_of(folder *files, petool_text name)
     size_t i;
     for (i = 0; i < files->count; i++) {
         if (is_named(&files->modules[i], name)) {
-            int status = open_module(&files->modules[i]);
+            int status = open_module(&files->modules[i], files->is_delayed);
             if (status > files->status)
                 files->status = status;
             return files->modules[i].image.is_open ? &files->modules[i] : NULL;
@@ -281,16 +297,16 @@ static int close_over(folder *files, const module *program)
     return files->status;
 }
 
-static int run(const char *program_path, const char *folder_path)
+static int run(bool is_delayed, const char *program_path, const char *folder_path)
 {
-    folder files = {NULL, 0, 0};
+    folder files = {NULL, 0, 0, is_delayed};
     module program;
     int status;
     set_module(&program, (char *)malloc(strlen(program_path) + 1));
     if (program.path == NULL)
         return refused("imports_closure", PETOOL_MEMORY, NULL);
     strcpy(program.path, program_path);
-    status = open_module(&program);
+    status = open_module(&program, is_delayed);
     if (status == 0)
         status = list_folder(&files, folder_path);
     if (status == 0)
@@ -303,9 +319,10 @@ static int run(const char *program_path, const char *folder_path)
 int main(int argc, char **argv)
 {
     bool helps = asks_for_help(argc, argv);
+    bool is_delayed = argc == 4 && strcmp(argv[1], "--delayed") == 0;
     int status;
-    if (helps || argc != 3)
+    if (helps || argc != (is_delayed ? 4 : 3))
         return tell_usage(usage, helps);
-    status = run(argv[1], argv[2]);
+    status = run(is_delayed, argv[argc - 2], argv[argc - 1]);
     return is_printed() ? status : DEVICE_FAILED;
 }

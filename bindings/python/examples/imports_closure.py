@@ -1,10 +1,12 @@
 #!/usr/bin/env python3
-"""Shows who exports what a program imports: follows its imports, and those of each DLL of a folder that they lead to.
+"""Shows who exports what a program imports: follows its imports, and those of each DLL of a folder that they lead to; with --delayed
+also those that are delay-loaded.
 
 A DLL that is refused is reported on standard error, and counts as missing.
 """
 
 import argparse
+import itertools
 import pathlib
 import sys
 from typing import Dict, Iterator, Optional, Tuple, Union
@@ -43,9 +45,10 @@ def opened(path: pathlib.Path) -> Tuple[Optional[petool.Image], int]:
 
 
 class Folder:
-    """The images of a folder, each read when it is first needed."""
+    """The images of a folder, each read when it is first needed, and whether delay-loaded imports are followed."""
 
-    def __init__(self, folder: pathlib.Path) -> None:
+    def __init__(self, folder: pathlib.Path, delayed: bool) -> None:
+        self.delayed = delayed
         paths = sorted(folder.iterdir(), reverse=True)
         # of names that differ only in case, the first one is used
         self.paths = {path.name.lower(): path for path in paths if path.is_file()}
@@ -75,7 +78,7 @@ class Folder:
 
     def follow(self, name: str, image: petool.Image) -> Iterator[str]:
         """Prints a line for each import of an image, and yields the modules to which they lead."""
-        for it in image.imports:
+        for it in itertools.chain(image.imports, image.delay_imports if self.delayed else ()):
             module, found = self.exporter(module_of(it.module), it.key)
             print(f"{name}: {it.module.decode('utf-8', 'replace')} {shown(it.key)} -> {module} {found}")
             yield module
@@ -95,6 +98,7 @@ def close_over(folder: Folder, name: str, program: petool.Image) -> int:
 
 def main() -> int:
     arguments = argparse.ArgumentParser(description=__doc__)
+    arguments.add_argument("--delayed", action="store_true", help="follow delay-loaded imports too")
     arguments.add_argument("program", type=pathlib.Path)
     arguments.add_argument("folder", type=pathlib.Path)
     words = arguments.parse_args()
@@ -102,7 +106,7 @@ def main() -> int:
     if program is None:
         return status
     try:
-        folder = Folder(words.folder)
+        folder = Folder(words.folder, words.delayed)
     except OSError as error:
         return told(words.folder, error)
     return close_over(folder, words.program.name, program)

@@ -1,5 +1,5 @@
-//! Who exports what a program imports: `imports_closure PROGRAM FOLDER` follows the imports of a program, and those of
-//! each DLL of a folder to which they lead, through all forwarders.
+//! Who exports what a program imports: `imports_closure [--delayed] PROGRAM FOLDER` follows the imports of a program, and those of
+//! each DLL of a folder to which they lead, through all forwarders; with `--delayed` also those that are delay-loaded.
 //!
 //! A DLL that is refused is reported on standard error, and counts as missing.
 
@@ -10,9 +10,10 @@ use std::fmt::Display;
 use std::path::{Path, PathBuf};
 use std::{env, fs, io, process};
 
-const USAGE: &str = "usage: imports_closure PROGRAM FOLDER
+const USAGE: &str = "usage: imports_closure [--delayed] PROGRAM FOLDER
 
-Shows who exports what a program imports: follows its imports, and those of each DLL of a folder that they lead to.
+Shows who exports what a program imports: follows its imports, and those of each DLL of a folder that they lead to;
+with --delayed also those that are delay-loaded.
 A DLL that is refused is reported on standard error, and counts as missing.";
 
 /// A search that follows more forwarders is given up.
@@ -48,6 +49,8 @@ impl File {
 /// The images of a folder, each read when it is first needed. They are found by their names in lower case.
 struct Folder<'a> {
     files: &'a BTreeMap<String, File>,
+    /// Whether delay-loaded imports are followed.
+    delayed: bool,
     images: BTreeMap<&'a str, Result<Image<'a>, i32>>,
 }
 
@@ -80,9 +83,14 @@ impl<'a> Folder<'a> {
     }
 
     /// Prints a line for each import of an image; returns the modules to which they lead.
-    fn follow(&mut self, name: &str, tables: &Tables<'a>) -> Result<Vec<String>, OutOfMemory> {
+    fn follow(&mut self, name: &str, image: &Image<'a>, tables: &Tables<'a>) -> Result<Vec<String>, OutOfMemory> {
         let mut modules = Vec::new();
-        for import in tables.imports() {
+        let delayed = if self.delayed {
+            image.delay_imports()?
+        } else {
+            Vec::new()
+        };
+        for import in tables.imports().chain(delayed) {
             let (module, found) = self.exporter(import.module, import.key)?;
             let wanted = String::from_utf8_lossy(import.module);
             println!("{name}: {wanted} {} -> {module} {found}", shown(import.key));
@@ -133,7 +141,7 @@ fn files_of(folder: &Path) -> io::Result<BTreeMap<String, File>> {
 }
 
 /// Follows the imports of a program; returns the exit status.
-fn run(program: &Path, folder: &Path) -> Result<i32, Box<dyn Error>> {
+fn run(delayed: bool, program: &Path, folder: &Path) -> Result<i32, Box<dyn Error>> {
     let program = File { path: program.into() };
     let image = match program.image() {
         Ok(image) => image,
@@ -142,11 +150,12 @@ fn run(program: &Path, folder: &Path) -> Result<i32, Box<dyn Error>> {
     let files = files_of(folder)?;
     let mut folder = Folder {
         files: &files,
+        delayed,
         images: BTreeMap::new(),
     };
     let (mut waiting, mut met) = (vec![(program.name(), image)], BTreeSet::new());
     while let Some((name, image)) = waiting.pop() {
-        for module in folder.follow(&name, &image.tables()?)? {
+        for module in folder.follow(&name, &image, &image.tables()?)? {
             let found = folder.image(&module).filter(|(module, _)| met.insert(*module));
             if let Some((module, image)) = found {
                 waiting.push((files[module].name(), image.shared()?));
@@ -162,14 +171,15 @@ fn main() {
         println!("{USAGE}");
         return;
     }
-    let (program, folder) = match &words[..] {
-        [program, folder] => (program, folder),
+    let (delayed, program, folder) = match &words[..] {
+        [program, folder] => (false, program, folder),
+        [option, program, folder] if option == "--delayed" => (true, program, folder),
         _ => {
             eprintln!("{USAGE}");
             process::exit(2);
         }
     };
-    process::exit(run(program.as_ref(), folder.as_ref()).unwrap_or_else(|error| {
+    process::exit(run(delayed, program.as_ref(), folder.as_ref()).unwrap_or_else(|error| {
         eprintln!("imports_closure: {error}");
         if error.is::<OutOfMemory>() {
             4
