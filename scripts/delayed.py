@@ -15,7 +15,7 @@ import struct
 import subprocess
 import sys
 
-import sums
+from compared import compare_all
 
 COUNTS = collections.Counter()
 
@@ -65,4 +65,4 @@ def compare(petool, path):
 if __name__ == "__main__":
     if len(sys.argv) < 3:
         sys.exit(__doc__)
-    sys.exit(sums.compare_all(compare, COUNTS, ("files", "with imports", "imports", "refused", "differences"), *sys.argv[1:]))
+    sys.exit(compare_all(compare, COUNTS, ("files", "with imports", "imports", "refused", "differences"), *sys.argv[1:]))

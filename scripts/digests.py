@@ -17,7 +17,7 @@ import subprocess
 import sys
 
 import petool
-from sums import images
+from compared import images
 
 COUNTS = collections.Counter()
 

@@ -15,7 +15,7 @@ import subprocess
 import sys
 import tempfile
 
-import sums
+from compared import compare_all
 
 COUNTS = collections.Counter()
 
@@ -40,7 +40,7 @@ def main():
         loader = os.path.join(folder, "loader")
         source = os.path.join(os.path.dirname(os.path.abspath(__file__)), "loader.c")
         subprocess.run(["cc", "-O2", "-o", loader, source], check=True)
-        return sums.compare_all(compare, COUNTS, ("files", "bytes", "refused", "differences"), (petool, loader, folder), *paths)
+        return compare_all(compare, COUNTS, ("files", "bytes", "refused", "differences"), (petool, loader, folder), *paths)
 
 
 if __name__ == "__main__":

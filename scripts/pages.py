@@ -369,7 +369,7 @@ def relocation_rows(it, names):
 
 
 def names_of(names, section):
-    return names[section - 1] if section <= len(names) else ""
+    return names[section - 1] if section <= len(names) else shown(b"")
 
 
 def symbol_rows(it, names):

@@ -9,24 +9,15 @@ Needs the Python package pefile.
 """
 
 import collections
-import os
 import re
 import subprocess
 import sys
 
 import pefile
 
+from compared import compare_all
+
 COUNTS = collections.Counter()
-
-
-def images(path):
-    """The files of a path that begin with MZ."""
-    files = [path] if os.path.isfile(path) else [os.path.join(folder, it) for folder, _, names in os.walk(path) for it in names]
-    for file in sorted(files):
-        if os.path.isfile(file):
-            with open(file, "rb") as opened:
-                if opened.read(2) == b"MZ":
-                    yield file
 
 
 def told(petool, path):
@@ -48,15 +39,6 @@ def compare(petool, path):
     if ours != theirs:
         COUNTS["differences"] += 1
         print(f"{path}: petool 0x{ours[0]:08x} 0x{ours[1]:08x}, pefile 0x{theirs[0]:08x} 0x{theirs[1]:08x}")
-
-
-def compare_all(comparison, counts, names, petool, *paths):
-    """Compares each image of the paths, and prints what was counted. Whether there were differences."""
-    for path in paths:
-        for file in images(path):
-            comparison(petool, file)
-    print(", ".join(f"{counts[it]} {it}" for it in names))
-    return counts["differences"] > 0
 
 
 if __name__ == "__main__":

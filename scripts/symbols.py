@@ -15,9 +15,11 @@ import re
 import subprocess
 import sys
 
-import sums
+from compared import compare_all
 
 COUNTS = collections.Counter()
+#: The class of symbols that name a source file, which objdump calls `fake`.
+FILE = b"103"
 SECTIONS = {"UNDEFINED": 0, "ABSOLUTE": -1, "DEBUG": -2}
 ROW = re.compile(rb"^\[ *(\d+)\]\(sec *(-?\d+)\)\(fl 0x\w\w\)\(ty *(\w+)\)\(scl *(\d+)\) \(nx (\d+)\) 0x(\w+) (.*)$", re.M)
 
@@ -51,7 +53,10 @@ def listed(objdump, path):
     if done.returncode != 0:
         return None
     rows = [match.groups() for match in ROW.finditer(done.stdout)]
-    return [(int(at), int(section), int(kind, 16), int(scl), int(aux), int(value, 16) & 0xFFFFFFFF, name) for at, section, kind, scl, aux, value, name in rows]
+    return [
+        (int(at), int(section), int(kind, 16), int(scl), int(aux), int(value, 16) & 0xFFFFFFFF, b".file" if scl == FILE else name)
+        for at, section, kind, scl, aux, value, name in rows
+    ]
 
 
 def compare(programs, path):
@@ -74,4 +79,4 @@ if __name__ == "__main__":
     if len(sys.argv) < 4:
         sys.exit(__doc__)
     COUNTED = ("files", "with symbols", "symbols", "refused", "unknown", "differences")
-    sys.exit(sums.compare_all(compare, COUNTS, COUNTED, sys.argv[1:3], *sys.argv[3:]))
+    sys.exit(compare_all(compare, COUNTS, COUNTED, sys.argv[1:3], *sys.argv[3:]))

@@ -16,7 +16,7 @@ import sys
 
 import pefile
 
-from sums import compare_all
+from compared import compare_all
 
 COUNTS = collections.Counter()
 

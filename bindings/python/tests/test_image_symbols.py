@@ -164,7 +164,7 @@ class Pages(FindingPages, unittest.TestCase):
 
     def test_a_section_that_is_not_there(self):
         rows = self.parts(image([record(b"a", 0, 9, 0, 2)], strings()), "--symbols")["Symbols (1)"]
-        self.assertEqual(rows, [f"   0  0x00000000  9 {'':12}  {'EXTERNAL':13}            a"])
+        self.assertEqual(rows, ['   0  0x00000000  9 ""            EXTERNAL                 a'])
 
 
 @unittest.skipUnless(PROGRAM, "left out without program: PETOOL_PROGRAM names none")
