@@ -17,6 +17,8 @@ FAULT_CRATES = (
     "pe_layout",
     "pe_tables",
     "pe_records",
+    "pe_delay",
+    "pe_symbols",
     "pe_resources",
     "pe_trust",
     "pe_version",

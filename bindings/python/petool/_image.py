@@ -288,8 +288,8 @@ def imports_of(file: FileBytes, rows: memoryview) -> Rows[Import]:
     return Rows(rows, LAYOUTS["import"], make, make_all)
 
 
-def _fixups_of(values: Iterator[Tuple[int, ...]]) -> Iterator[Fixup]:
-    return map(Fixup._make, values)
+def _fixups_of(rows: Rows[Fixup]) -> Iterator[Fixup]:
+    return map(Fixup._make, rows.values())
 
 
 class Exports(AbstractMapping):  # type: ignore[type-arg]

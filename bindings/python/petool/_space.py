@@ -34,8 +34,8 @@ class Binding(NamedTuple):
     # end of describe/records.txt
 
 
-def _bindings(values: Iterator[Tuple[int, ...]]) -> Iterator[Binding]:
-    return map(Binding._make, values)
+def _bindings(rows: Rows[Binding]) -> Iterator[Binding]:
+    return map(Binding._make, rows.values())
 
 
 class Moved(NamedTuple):

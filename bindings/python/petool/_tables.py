@@ -7,7 +7,7 @@ import uuid
 from typing import Callable, Iterator, NamedTuple, Optional, Tuple
 
 from . import _library, _records
-from ._bytes import RowLayout
+from ._bytes import RowLayout, Rows
 from ._fault import Place, line_of, words_of
 
 # from describe/records.txt: pdb_kinds
@@ -235,9 +235,9 @@ def values_of(layout: RowLayout, rows: memoryview) -> Iterator[Optional[int]]:
     return (value if is_present else None for value, is_present in layout.struct.iter_unpack(rows))
 
 
-def entries_of(values: Iterator[Tuple[int, ...]]) -> Iterator[DebugEntry]:
-    return map(DebugEntry._make, values)
+def entries_of(rows: Rows[DebugEntry]) -> Iterator[DebugEntry]:
+    return map(DebugEntry._make, rows.values())
 
 
-def functions_of(values: Iterator[Tuple[int, ...]]) -> Iterator[Function]:
-    return map(Function._make, values)
+def functions_of(rows: Rows[Function]) -> Iterator[Function]:
+    return map(Function._make, rows.values())

@@ -45,13 +45,19 @@ COMMANDS = ("check", "dump", "map", "show", "json", "json with all", "at")
 SIZELESS = ("check", "dump", "map", "json", "at")
 
 #: Those whose output has it, or what the whole file decides.
-SIZED = ("show", "json with all")
+SIZED = ("show", "show with symbols", "json with all")
 
-#: The options of `show` for which no more is read than without them: all but `--trust`.
-ROWS = ("--exports", "--imports", "--relocations", "--symbols", "--debug", "--functions", "--tls", "--load")
+#: The options of `show` for which no more is read than without them: all but `--symbols` and `--trust`.
+ROWS = ("--exports", "--imports", "--relocations", "--debug", "--functions", "--tls", "--load")
 
 #: The words of a command, if these are not the command and the path.
-WORDS = {"map": ("map", "10000000={}"), "show": ("show", *ROWS, "{}"), "json with all": ("json", "--all", "{}"), "at": ("at", "{}", "1000")}
+WORDS = {
+    "map": ("map", "10000000={}"),
+    "show": ("show", *ROWS, "{}"),
+    "show with symbols": ("show", "--symbols", "{}"),
+    "json with all": ("json", "--all", "{}"),
+    "at": ("at", "{}", "1000"),
+}
 
 
 def words_of(command, path):
