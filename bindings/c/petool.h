@@ -340,9 +340,9 @@ PETOOL_WARN_UNUSED uint32_t petool_import_at(const uint8_t *file, size_t len, ui
  * the file holds of the table is read. A table ends where its Size does, or, before that, the bytes that the file holds from its
  * RVA on in one run: what is in zero fill has no rows. */
 
-/* All findings, of these tables and those of petool_trust_findings, by table in the order of their numbers, and of each table those
- * of its directory before those of its records; those of the resources as their tree is read; of image 0. OK; SMALL; FAULT, with one
- * of 1 to 15; or MEMORY, but only if the image has a resource directory, or another of these tables has a finding. */
+/* All findings, of these tables, of the symbol table and those of petool_trust_findings, by table in the order of their numbers, and of
+ * each table those of its directory before those of its records; those of the resources as their tree is read; of image 0. OK; SMALL;
+ * FAULT, with one of 1 to 15; or MEMORY, but only if the image has a resource directory, or another of these tables has a finding. */
 PETOOL_WARN_UNUSED uint32_t petool_findings(const uint8_t *file, size_t len, petool_fault *rows, size_t room, size_t *count,
                                             petool_fault *fault);
 
@@ -456,8 +456,9 @@ typedef struct petool_bound_import {
 PETOOL_WARN_UNUSED uint32_t petool_bound_imports(const uint8_t *file, size_t len, petool_bound_import *rows, size_t room,
                                                  size_t *count, petool_fault *fault);
 
-/* The delay-loaded imports, in the order of the delay-load directory table, as rows of the import table: those of each descriptor
- * that has none of the findings 162 to 167. OK; SMALL; FAULT, with one of 1 to 15; or MEMORY, only if there is an import. */
+/* The delay-loaded imports, in the order of the delay-load directory table, whatever its Size is, as rows of the import table: those of
+ * each descriptor that has none of the findings 162 to 167. OK; SMALL; FAULT, with one of 1 to 15; or MEMORY, only if there is an
+ * import. */
 PETOOL_WARN_UNUSED uint32_t petool_delay_imports(const uint8_t *file, size_t len, petool_import *rows, size_t room, size_t *count,
                                                  petool_fault *fault);
 

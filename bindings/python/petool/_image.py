@@ -586,8 +586,8 @@ class Image(TrustOfFile):
 
     @property
     def findings(self) -> Tuple[Finding, ...]:
-        """The rules of the tables beyond the profile, of the certificate table and of the Rich header that are broken, in the order of
-        docs/FAULTS.md by table."""
+        """The rules of the tables beyond the profile, of the certificate table, of the Rich header and of the symbol table that are
+        broken, in the order of docs/FAULTS.md by table."""
         if self._findings is None:
             self._findings = _tables.findings_by(lambda *rows: self._ask(library.petool_findings, *rows))
         return self._findings

@@ -139,8 +139,8 @@ impl<'a> Image<'a> {
         translated(&rows, Symbol::NONE, |row| Symbol::of(self.file(), row))
     }
 
-    /// The rules of these tables, of the certificate table and of the Rich header that are broken, by table in the order of their
-    /// numbers, which are from 101 on.
+    /// The rules of these tables, of the certificate table, of the Rich header and of the symbol table that are broken, by table in the
+    /// order of their numbers, which are from 101 on.
     pub fn findings(&self) -> Result<Vec<Fault>, OutOfMemory> {
         let rows = self.rows_by(sys::Fault::default(), sys::petool_findings)?;
         Ok(rows.into_iter().map(Fault::of).collect())
