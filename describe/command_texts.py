@@ -36,6 +36,7 @@ OPTIONS = {
     "most": ("file_words.rt", r"const MOST: &str =\s+"),
     "address": ("at_words.rt", r"const ADDRESS: &str =\s+"),
     "file": ("at_words.rt", r"const OFFSET: &str =\s+"),
+    "map": ("at_words.rt", r"const MAP: &str =\s+"),
     "raw": ("resource_words.rt", r"const RAW: &str =\s+"),
     "extract": ("archive_words.rt", r"const EXTRACT: &str =\s+"),
     "index": ("archive_words.rt", r"const INDEX: &str =\s+"),
@@ -44,6 +45,7 @@ OPTIONS = {
     "check-sum": ("rebase_words.rt", r"const CHECK_SUM: &str =\s+"),
     "known": ("map_words.rt", r"const KNOWN: &str =\s+"),
     "unbound": ("map_words.rt", r"const UNBOUND: &str =\s+"),
+    "write": ("map_words.rt", r"const WRITE: &str =\s+"),
     "window": ("map_words.rt", r"const WINDOW: &str =\s+"),
     "count": ("map_words.rt", r'argument\(alloc, "count", '),
 }

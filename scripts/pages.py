@@ -299,7 +299,7 @@ def table_rows(image, tables, wanted):
         yield from import_rows(tables.delayed.imports, "Delay-loaded imports")
     if "relocations" in wanted and image.fixups is not None:
         yield from fixup_rows(image.fixups)
-    yield from pages_tables.rows(tables, wanted, shown, lambda rva: place_of(image, rva)[0], UNSAFE)
+    yield from pages_tables.rows(tables, wanted, shown, lambda rva: place_of(image, rva)[0], UNSAFE, fault_words)
 
 
 def with_symbols(findings, symbols):
@@ -540,14 +540,25 @@ def row_words(file, image, rva):
     return words or (f"{DIRECTORIES[others[0]]} table" if others else "")
 
 
-def export_words(image, rva):
-    """The last export at an RVA or before it in its section."""
+def distance(rva, target):
+    return f"+0x{rva - target:x}" if rva > target else ""
+
+
+def nearest_words(file, image, rva):
+    """The last export at an RVA or before it in its section, and the last symbol there if it is after this."""
     start, _, section = image.piece(rva) or (0, 0, None)
-    at = [it for it in image.exports or [] if isinstance(it[1], int) and start <= it[1] <= rva] if section else []
-    if not at:
+    if not section:
         return ""
-    ordinal, target, names = max(at, key=lambda it: (it[1], -it[0]))
-    return f"  export {shown(names[0]) if names else f'#{ordinal}'}" + (f"+0x{rva - target:x}" if rva > target else "")
+    words, at = "", [it for it in image.exports or [] if isinstance(it[1], int) and start <= it[1] <= rva]
+    if at:
+        ordinal, start, names = max(at, key=lambda it: (it[1], -it[0]))
+        words, start = f"  export {shown(names[0]) if names else f'#{ordinal}'}{distance(rva, start)}", start + 1
+    symbols = pages_symbols.ImageSymbols(file, image.headers).places()
+    near = [(place, name) for place, name in symbols if start <= place <= rva]
+    if near:
+        place, name = max(near, key=lambda it: it[0])
+        words += f"  symbol {shown(name)}{distance(rva, place)}"
+    return words
 
 
 def field_words(image, rva):
@@ -622,7 +633,7 @@ def image_place(file, image, options, place):
     (words, offset), piece = place_of(image, rva), image.piece(rva)
     words += " " + permissions(piece[2].flags) if piece and piece[2] else ""
     slots = [(module, key) for module, slot, key in image.imports or [] if slot <= rva < slot + (8 if image.wide else 4)]
-    words += export_words(image, rva) + (f"  slot of {shown(slots[0][0])} {key_words(slots[0][1])}" if slots else "") + field_words(image, rva)
+    words += nearest_words(file, image, rva) + (f"  slot of {shown(slots[0][0])} {key_words(slots[0][1])}" if slots else "") + field_words(image, rva)
     tables = pages_tables.Tables(image, file)
     words += pages_tables.function_words(tables, rva)
     row = row_words(file, image, rva)

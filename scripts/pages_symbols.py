@@ -15,13 +15,14 @@ class ImageSymbols:
 
     def __init__(self, file, headers):
         self.sections, self.table, self.records = headers.sections, headers.symbols, headers.symbol_count
-        self.symbols, self.findings = [], []
+        self.symbols, self.findings, self.is_whole = [], [], False
         if self.table:
             self.read(file)
 
     def read(self, file):
         end, held = self.table + 18 * self.records, min(self.records, max(len(file) - self.table, 0) // 18)
         has_strings = end + 4 <= len(file) and end + uint(file, end, 4) <= len(file)
+        self.is_whole = has_strings
         if end > len(file):
             self.findings.append((261, self.table))
         elif not has_strings:
@@ -38,3 +39,10 @@ class ImageSymbols:
             beside = [file[at + 18 * k : at + 18 * (k + 1)] for k in range(1, there + 1)]
             self.symbols.append((index, name, value, section, kind, storage, beside))
             index += 1 + there
+
+    def places(self):
+        """The RVA and the name of each symbol that names a place in a section, in the order of the table, if that is whole."""
+        for _, name, value, section, kind, storage, beside in self.symbols if self.is_whole else []:
+            is_place = storage in (2, 3, 6) and not (storage == 3 and kind == 0 and beside)
+            if name and is_place and 0 < section <= len(self.sections):
+                yield self.sections[section - 1].rva + value, name

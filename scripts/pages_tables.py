@@ -8,12 +8,13 @@ import struct
 
 import pages_resources
 import pages_symbols
+import pages_unwind
 from pages_delayed import DELAY, Delayed
 from pages_reader import uint
 
 EXCEPTION, CERTIFICATE, DEBUG, TLS, LOAD, BOUND, CLR = 3, 4, 6, 9, 10, 11, 14
 #: The options of `show` that add the rows of these tables.
-TABLES = ("debug", "functions", "tls", "load", "resources")
+TABLES = ("debug", "functions", "unwind", "tls", "load", "resources")
 TYPES = dict(enumerate("UNKNOWN COFF CODEVIEW FPO MISC EXCEPTION FIXUP OMAP_TO_SRC OMAP_FROM_SRC BORLAND RESERVED10 CLSID VC_FEATURE POGO "
                        "ILTCG MPX REPRO EMBEDDED_PDB".split())) | {19: "PDBCHECKSUM", 20: "EX_DLLCHARACTERISTICS"}
 TLS_FIELDS = "StartAddressOfRawData EndAddressOfRawData AddressOfIndex AddressOfCallBacks SizeOfZeroFill Characteristics".split()
@@ -363,7 +364,8 @@ def debug_rows(tables, shown):
         yield row + (f"   {words}" if words else "")
 
 
-def function_rows(tables, place):
+def function_rows(tables, place, words):
+    """The rows of functions, each with its unwind information below it if `words`, which has the words of findings, is there."""
     functions = tables.functions()
     if not functions:
         return
@@ -371,19 +373,22 @@ def function_rows(tables, place):
     yield f"\nFunctions ({len(functions):,})"
     if tables.machine == 0x8664:
         yield "  begin     end       unwind    place"
-        yield from ("  " + "  ".join(f"0x{it:0{width}x}" for it in record) + f"  {place(record[0])}" for _, record in functions)
+        for _, record in functions:
+            yield "  " + "  ".join(f"0x{it:0{width}x}" for it in record) + f"  {place(record[0])}"
+            yield from pages_unwind.lines(tables, record, place, words) if words else []
         return
     yield "  begin     unwind             place"
     for _, (begin, unwind) in functions:
         yield f"  0x{begin:0{width}x}  {'packed' if unwind % 4 else 'record'} 0x{unwind:08x}  {place(begin)}"
+        yield from pages_unwind.arm_lines(tables, unwind, place) if words and tables.machine == 0xAA64 else []
 
 
 def function_words(tables, rva):
-    """The first function of AMD64 that has a place."""
+    """The first function of AMD64 that has a place, its frame and its handler."""
     if tables.machine != 0x8664:
         return ""
-    found = [(begin, end) for _, (begin, end, _) in tables.functions() if begin <= rva < end]
-    return "  function 0x{:x} to 0x{:x}".format(*found[0]) if found else ""
+    found = [record for _, record in tables.functions() if record[0] <= rva < record[1]]
+    return "  function 0x{:x} to 0x{:x}".format(*found[0]) + pages_unwind.frame_words(tables, found[0][2]) if found else ""
 
 
 def tls_rows(tables, place):
@@ -403,12 +408,13 @@ def load_rows(tables):
         yield from (f"  {name:40}  0x{value:x}" for name, value in fields.items())
 
 
-def rows(tables, wanted, shown, place, unsafe):
-    """The rows of the tables that options select. `unsafe` finds characters that are not to be written to a terminal."""
+def rows(tables, wanted, shown, place, unsafe, words):
+    """The rows of the tables that options select. `unsafe` finds characters that are not to be written to a terminal; `words` has what
+    findings say."""
     if "debug" in wanted:
         yield from debug_rows(tables, shown)
-    if "functions" in wanted:
-        yield from function_rows(tables, place)
+    if "functions" in wanted or "unwind" in wanted:
+        yield from function_rows(tables, place, words if "unwind" in wanted else None)
     if "tls" in wanted:
         yield from tls_rows(tables, place)
     if "load" in wanted:

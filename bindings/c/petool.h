@@ -771,6 +771,11 @@ PETOOL_WARN_UNUSED uint32_t petool_image_export_names(petool_image *image, petoo
 PETOOL_WARN_UNUSED uint32_t petool_image_imports(petool_image *image, petool_import *rows, size_t room, size_t *count);
 PETOOL_WARN_UNUSED uint32_t petool_image_fixups(petool_image *image, petool_fixup *rows, size_t room, size_t *count);
 
+/* The image's file for the base `base`, as petool_rebase writes it to a buffer of the file's length; the tables are not read again.
+ * OK; ARGUMENT; FAULT, with the first of 44 to 46, 51 and 52; MEMORY; or CLOSED. */
+PETOOL_WARN_UNUSED uint32_t petool_image_rebase(petool_image *image, uint64_t base, uint8_t *buffer, size_t room,
+                                                petool_fault *fault);
+
 /* ---- files at other bases ---- */
 
 /* The image's file for the base `base`, written to a buffer, whose length `room` must be `len`. OK; ARGUMENT if it is not; FAULT,
@@ -1600,6 +1605,15 @@ PETOOL_WARN_UNUSED static inline uint32_t petool_nullable_image_fixups(petool_im
     return petool_image_fixups(image, (petool_fixup *)petool_room(rows), room, count);
 }
 #define petool_image_fixups petool_nullable_image_fixups
+
+PETOOL_WARN_UNUSED static inline uint32_t petool_nullable_image_rebase(petool_image *image, uint64_t base, uint8_t *buffer,
+                                                                       size_t room, petool_fault *fault)
+{
+    if (PETOOL_IS_LOST(buffer, room))
+        return PETOOL_ARGUMENT;
+    return petool_image_rebase(image, base, (uint8_t *)petool_room(buffer), room, fault);
+}
+#define petool_image_rebase petool_nullable_image_rebase
 
 PETOOL_WARN_UNUSED static inline uint32_t petool_nullable_rebase(const uint8_t *file, size_t len, uint64_t base, uint8_t *buffer,
                                                                  size_t room, petool_fault *fault)

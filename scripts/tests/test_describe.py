@@ -18,6 +18,7 @@ FAULT_CRATES = (
     "pe_tables",
     "pe_records",
     "pe_delay",
+    "pe_unwind",
     "pe_symbols",
     "pe_resources",
     "pe_trust",

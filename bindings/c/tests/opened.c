@@ -5,6 +5,7 @@
 #include "check.h"
 
 #define ROWS 8
+#define ROOM 16384
 
 static const char *const names[9] = {"v1.dll", "v2.dll", "v3.dll", "va.dll", "vb.dll", "vc.dll", "vd.dll", "vs.dll", "vr.dll"};
 static bytes files[9];
@@ -87,6 +88,22 @@ static void check_tables(petool_image *image, const bytes *file, size_t room)
     CHECK(petool_image_fixups(image, same_fixups, room, &same_count) == petool_fixups(file->at, file->len, fixups, room, &count, &fault));
     CHECK(count == same_count && are_same_fixups(fixups, same_fixups));
     CHECK(image->is_open && is_fault(&fault, &UNTOLD));
+}
+
+/* The file for a base is that of petool_rebase, with its status and fault, and a buffer that is not written stays as it was. */
+static void check_rebase(petool_image *image, const bytes *file, uint64_t base)
+{
+    static uint8_t moved[ROOM], same[ROOM];
+    petool_fault fault = UNTOLD, same_fault = UNTOLD;
+    uint32_t status;
+    CHECK(file->len < ROOM);
+    memset(moved, 0x5a, sizeof moved), memset(same, 0x5a, sizeof same);
+    status = petool_rebase(file->at, file->len, base, moved, file->len, &fault);
+    CHECK(petool_image_rebase(image, base, same, file->len, &same_fault) == status && is_fault(&fault, &same_fault));
+    CHECK(memcmp(moved, same, sizeof moved) == 0);
+    CHECK(petool_image_rebase(image, base, same, file->len + 1, &same_fault) == PETOOL_ARGUMENT && is_fault(&fault, &same_fault));
+    CHECK(petool_image_rebase(image, base, same, file->len - 1, &same_fault) == PETOOL_ARGUMENT && memcmp(moved, same, sizeof moved) == 0);
+    CHECK(image->is_open);
 }
 
 /* Checks what a name exports; returns the status. */
@@ -181,10 +198,13 @@ static void check_rva(petool_image *image, const bytes *file, uint32_t rva)
 static void check_file(const bytes *file)
 {
     static const uint32_t places[12] = {0, 0x3c, 0x1ff, 0x1000, 0x1010, 0x1030, 0x1ffc, 0x2fff, 0x20010, 0x30123, 0x41000, 0xffffffff};
+    static const uint64_t bases[6] = {0, 0x10000000, 0x20000000, 0x20000001, 0xffff0000, 0x7fff000000000000};
     petool_image image = opened(file);
     size_t k;
     for (k = 0; k <= ROWS; k++)
         check_tables(&image, file, k);
+    for (k = 0; k < 6; k++)
+        check_rebase(&image, file, bases[k]);
     check_look_ups(&image, file);
     check_slots(&image, file);
     for (k = 0; k < 12; k++)
@@ -227,6 +247,7 @@ static void check_closed(petool_image *image)
     petool_export export_row;
     petool_import import_row;
     petool_fixup fixup_row = {9, 9, 9};
+    petool_fault fault = UNTOLD;
     petool_target target;
     petool_text text = PETOOL_NONE;
     uint64_t offset = 7;
@@ -247,6 +268,7 @@ static void check_closed(petool_image *image)
     CHECK(petool_image_export_names(image, &export_row, 1, &count) == PETOOL_CLOSED && export_row.name.len == 0);
     CHECK(petool_image_imports(image, &import_row, 1, &count) == PETOOL_CLOSED && import_row.slot == 0);
     CHECK(petool_image_fixups(image, &fixup_row, 1, &count) == PETOOL_CLOSED && fixup_row.field == 9);
+    CHECK(petool_image_rebase(image, 0x20000000, &byte, 1, &fault) == PETOOL_CLOSED && byte == 0x5a && is_fault(&fault, &UNTOLD));
     CHECK(count == 99 && !image->is_open);
 }
 

@@ -44,7 +44,7 @@ class Headers:
     machine: int  #: the machine that the image is for
     number_of_sections: int  #: how many sections there are
     time_date_stamp: int  #: when the image was made, in seconds since 1970, as written
-    pointer_to_symbol_table: int  #: the file offset of the symbol table, which is not read
+    pointer_to_symbol_table: int  #: the file offset of the symbol table, or 0 if there is none
     number_of_symbols: int  #: how many records the symbol table has
     size_of_optional_header: int  #: the bytes from the beginning of the optional header to the section table
     characteristics: int  #: the flags of the image
@@ -420,6 +420,11 @@ class Image(TrustOfFile):
         raise_for(status)
         return status
 
+    def _ask_opened(self, function: Any, *arguments: Any) -> int:
+        """The status of a call of the open image whose last argument is a fault, which is raised."""
+        with self._lock:
+            return ask(function, byref(self._opened), *arguments, file=self._name)
+
     def _rows(self, name: str, layout: RowLayout) -> memoryview:
         return read_rows(layout, _GUESS, lambda *rows: self._call(name, *rows))
 
@@ -622,10 +627,14 @@ class Image(TrustOfFile):
         return offset.value if found else None
 
     def rebased(self, base: int) -> bytes:
-        """The image's file for another base; FormatFault of 24 to 38, 44 to 46, 51 and 52."""
+        """The image's file for another base; FormatFault of 44 to 46, 51 and 52, and without ``check`` of 24 to 38."""
         room = bytearray(max(self._file.length, 1))
         view = memoryview(room)
-        self._ask(library.petool_rebase, unsigned(base, 64, "a base"), address_of(view), self._file.length)
+        where = (unsigned(base, 64, "a base"), address_of(view), self._file.length)
+        if self._opened.is_open:
+            self._held(lambda: self._ask_opened(library.petool_image_rebase, *where))
+        else:
+            self._ask(library.petool_rebase, *where)
         return bytes(view[: self._file.length])
 
 

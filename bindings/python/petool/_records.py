@@ -303,6 +303,7 @@ CALLS: Dict[str, Tuple[Any, List[Any]]] = {
     "petool_image_export_names": (c_uint32, [POINTER(Image), c_void_p, c_size_t, POINTER(c_size_t)]),
     "petool_image_imports": (c_uint32, [POINTER(Image), c_void_p, c_size_t, POINTER(c_size_t)]),
     "petool_image_fixups": (c_uint32, [POINTER(Image), c_void_p, c_size_t, POINTER(c_size_t)]),
+    "petool_image_rebase": (c_uint32, [POINTER(Image), c_uint64, c_void_p, c_size_t, POINTER(Fault)]),
     "petool_image_close": (None, [POINTER(Image)]),
     "petool_rebase": (c_uint32, [c_void_p, c_size_t, c_uint64, c_void_p, c_size_t, POINTER(Fault)]),
     "petool_judge": (

@@ -237,8 +237,8 @@ ROWS = [
 
 @unittest.skipUnless(PROGRAM, "left out without program: PETOOL_PROGRAM names none")
 class Beyond(FindingPages, unittest.TestCase):
-    # those of resources and of what a file says of itself have tests of their own
-    NUMBERS, FOUND, SOUND = (range(101, 161), range(251, 261)), FOUND, SOUND
+    # those of unwind information, of resources and of what a file says of itself have tests of their own
+    NUMBERS, FOUND, SOUND = (range(101, 117), range(131, 161), range(251, 261)), FOUND, SOUND
 
     def test_a_finding_is_explained(self):
         done = run([PROGRAM, "explain", "103"])

@@ -186,6 +186,11 @@ class Bytes(unittest.TestCase):
             petool.rebase(data("v2.dll"), 0x20000001)
         self.assertEqual((caught.exception.number, caught.exception.at), (44, 0x20000001))
         self.assertEqual(str(caught.exception), "fault 44: base 0x20000001: the base is not a multiple of 65,536")
+        with petool.Image(data("v2.dll"), file="v2") as image, self.assertRaises(petool.FormatFault) as opened:
+            image.rebased(0x20000001)
+        self.assertEqual((str(opened.exception), opened.exception.file), (str(caught.exception), "v2"))
+        with petool.Image(data("v2.dll")) as image:
+            self.assertEqual(image.rebased(0x20000000), moved)
 
 
 class Faults(unittest.TestCase):

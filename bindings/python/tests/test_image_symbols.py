@@ -167,6 +167,62 @@ class Pages(FindingPages, unittest.TestCase):
         self.assertEqual(rows, ['   0  0x00000000  9 ""            EXTERNAL                 a'])
 
 
+#: Symbols at places of `.data`, and those that name no place.
+PLACES = [
+    record(b"late", 12, 1, 0, 2),
+    record(b"first", 4, 1, 0, 3),
+    record(b"second", 4, 1, 0x20, 2, 1),
+    AUX,
+    record(b".data", 0, 1, 0, 3, 1),
+    AUX,
+    record(b"own", 6, 1, 0x20, 3, 1),
+    AUX,
+    record(b"label", 8, 1, 0, 6),
+    record(4, 9, 1, 0, 105),
+    record(0, 9, 1, 0, 2),
+    record(b"nowhere", 9, 0, 0, 2),
+    record(b"number", 9, 0xFFFF, 0, 2),
+    record(b"none", 9, 2, 0, 2),
+]
+
+
+@unittest.skipUnless(PROGRAM, "left out without program: PETOOL_PROGRAM names none")
+class Places(OverFiles, unittest.TestCase):
+    def symbol_at(self, file, rva):
+        done = self.petool(file, "at", "a", f"{rva:x}")
+        self.assertEqual((done.stderr, done.returncode), (b"", 0))
+        return done.stdout.split(b"\n")[0].split(b"rw-", 1)[1].decode()
+
+    def test_the_last_symbol_before_a_place(self):
+        file = image(PLACES, strings(b"weak"))
+        near = ["", "", "", "", "first", "first+0x1", "own", "own+0x1", "label", "label+0x1", "label+0x2", "label+0x3", "late", "late+0x1"]
+        for offset, symbol in enumerate(near):
+            with self.subTest(offset):
+                self.assertEqual(self.symbol_at(file, 0x1000 + offset), f"  symbol {symbol}" if symbol else "")
+
+    def test_a_file_that_does_not_hold_the_tables_whole(self):
+        self.assertEqual(self.symbol_at(image(PLACES, numbers(4)), 0x1005), "  symbol first+0x1")
+        for behind in (numbers(5), bytes(3), b""):
+            with self.subTest(behind):
+                self.assertEqual(self.symbol_at(image(PLACES, behind), 0x1005), "")
+
+    def test_an_export_that_is_nearer(self):
+        # the last export of VB is at 0x1010; a symbol counts only after it
+        at, table = 0x1010, len(changed("vb.dll"))
+        for value, shown in ((at - 0x1001, False), (at - 0x1000, False), (at - 0xFFF, True)):
+            file = changed("vb.dll", (0x4C, numbers(table, 1))) + record(b"near", value, 1, 0, 2) + strings()
+            with self.subTest(value):
+                words = self.symbol_at(file, at + 3)
+                self.assertIn("  export ", words)
+                self.assertEqual("  symbol near+0x2" in words, shown)
+                self.assertEqual("  symbol" in words, shown)
+
+    def test_of_a_long_file(self):
+        # the tables are read of a file whose end is not
+        file = image(PLACES, strings(b"weak")) + bytes(1 << 17)
+        self.assertEqual(self.symbol_at(file, 0x1005), "  symbol first+0x1")
+
+
 @unittest.skipUnless(PROGRAM, "left out without program: PETOOL_PROGRAM names none")
 class Lines(OverFiles, unittest.TestCase):
     def line(self, file, *options):

@@ -48,7 +48,7 @@ SIZELESS = ("check", "dump", "map", "json", "at")
 SIZED = ("show", "show with symbols", "json with all")
 
 #: The options of `show` for which no more is read than without them: all but `--symbols` and `--trust`.
-ROWS = ("--exports", "--imports", "--relocations", "--debug", "--functions", "--tls", "--load")
+ROWS = ("--exports", "--imports", "--relocations", "--debug", "--functions", "--unwind", "--tls", "--load")
 
 #: The words of a command, if these are not the command and the path.
 WORDS = {

@@ -20,7 +20,7 @@ use pe_view::{TextEnds, View};
 use std::alloc::Allocator;
 
 /// How many records of an image's symbol table its file holds.
-fn records_held(view: View, headers: &Headers) -> u64
+pub fn records_held(view: View, headers: &Headers) -> u64
     ensures value { result ≡ records_held (bytes_of view.entry) headers.now }
     ensures inside { 18 * result ≤ size_of view.entry - headers.now.pointer_to_symbol_table }
     ensures small { result < 2 ^ 32 }

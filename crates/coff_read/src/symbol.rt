@@ -67,7 +67,7 @@ pub struct Symbol<'a> {
 }
 
 /// The section of a SectionNumber.
-pub(crate) fn section_of_number(number: u16) -> SymbolSection
+pub fn section_of_number(number: u16) -> SymbolSection
     ensures { result ≡ section_of_number number }
 {
     match number {

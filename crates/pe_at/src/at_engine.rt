@@ -81,7 +81,7 @@ impl<'s> ViewReport for SpotsReport<'s> {
 
 /// Writes what is at a place of the image whose file comes from the reader. The place is an RVA, an address with the image at its
 /// ImageBase, or a file offset. The output is the RVA, the address, the file offset and the section with its permissions; the last
-/// export at or before it in the section; the import whose slot contains it; the base relocation whose field contains it, with the
+/// export at or before it in the section, and the last symbol if that is nearer; the import whose slot contains it; the base relocation whose field contains it, with the
 /// field's target; the field of a header or the row of a table there; and 16 bytes. For a refused image the line of the first fault
 /// comes first, and what the fault does not let be read is left out.
 ///

@@ -7,6 +7,7 @@ ghost use Rattle.pe_text.specs.TextWriter.{IsReady};
 ghost use Rattle.pe_page.specs.Page.{AddsSome};
 
 use crate::object_places::place_row;
+use crate::placed_symbols::STATIC;
 use crate::relocation_width::relocation_width;
 use crate::row_name::row_cells;
 use crate::spot::{OUTSIDE_SECTION, SectionSearch, Spot};
@@ -22,9 +23,6 @@ use std::alloc::{AllocError, Allocator};
 
 /// How many bytes are shown.
 const SHOWN: usize = 16;
-
-/// The storage class of a symbol that is not seen in other objects.
-const STATIC: u8 = 3;
 
 /// What is said of a place that is not in the object's file.
 const OUTSIDE_FILE: &[u8] = b"the place is outside the file\n";
@@ -220,8 +218,8 @@ fn relocation_cells<'a>(
     ]
 }
 
-/// The last symbol at or before a place, like `  symbol main+0x10`.
-fn symbol_cells(nearest: Option<(u32, &[u8])>, offset: u64) -> [Cell<'_>; 4] {
+/// The value and the name of the last symbol at or before a place, like `  symbol main+0x10`.
+pub(crate) fn symbol_cells(nearest: Option<(u32, &[u8])>, offset: u64) -> [Cell<'_>; 4] {
     let Some((value, name)) = nearest else {
         return [NOTHING; 4];
     };

@@ -8,20 +8,23 @@ ghost use Rattle.pe_text.specs.TextWriter.{IsReady};
 ghost use Rattle.pe_page.specs.Page.{AddsSome};
 
 use crate::at_headers::write_by_headers;
+use crate::at_image::AtImage;
+use crate::at_object::symbol_cells;
 use crate::file_places::write_unlaid;
 use crate::header_places::header_row;
 use crate::leaf_place::write_leaf_at;
+use crate::placed_symbols::{PlacedSymbol, nearest_symbol};
 use crate::row_name::{RowName, row_cells};
 use crate::spot::{OUTSIDE, Spot, offset_in_section};
 use crate::table_places::{is_within, table_row};
 use coff_read::ImageStrings;
+use pe_head::Headers;
 use pe_image::Tables;
 use pe_layout::{Layout, Located};
 use pe_page::Cell::{self, Plain};
 use pe_page::{NOTHING, SectionNames, SectionPlace, outcome_of, permissions, write_cells};
-use pe_reach::{ViewFile, read_whole_tables};
+use pe_reach::ViewFile;
 use pe_record_pages::function_cells;
-use pe_resources::{Leaf, leaves};
 use pe_tables::{Exports, Fixup, FixupKind, Import, Target};
 use pe_text::Part::{Decimal, Hex, Hex2, Text};
 use pe_text::{Outcome, Sink, TextWriter, refuse, write_parts};
@@ -33,11 +36,11 @@ const SHOWN: u32 = 16;
 
 /// The least RVA to which a file offset is mapped.
 fn laid_at(layout: &Layout, offset: u64) -> Option<u32> {
-    let headers = layout.headers();
-    if offset < u64::from(headers.size_of_headers) {
+    if offset < u64::from(layout.size_of_headers()) {
         return Some(offset as u32);
     }
-    for section in headers.sections.as_slice() {
+    for index in 0..layout.section_count() {
+        let section = layout.section(index)?;
         let start = u64::from(section.pointer_to_raw_data);
         if offset >= start && offset - start < u64::from(section.rawlen()) {
             let behind = u32::try_from(offset - start).ok()?;
@@ -66,11 +69,7 @@ fn section_of(layout: &Layout, rva: u32) -> Option<(u32, u32)> {
         Located::Raw { section, .. } | Located::Zero { section } => section,
         _ => return None,
     };
-    let section = layout
-        .headers()
-        .sections
-        .as_slice()
-        .get(usize::from(index))?;
+    let section = layout.section(usize::from(index))?;
     Some((section.virtual_address, section.characteristics))
 }
 
@@ -106,14 +105,14 @@ fn name_of<'a, A: Allocator + Copy>(exports: &Exports<'a, A>, ordinal: u64) -> O
     None
 }
 
-/// The last export at or before an RVA in its section, like `  export crc32+0x10`.
+/// The last export at or before an RVA in its section, like `  export crc32+0x10`, and its RVA.
 fn export_cells<'a, A: Allocator + Copy>(
     exports: &Exports<'a, A>,
     first: u32,
     rva: u32,
-) -> [Cell<'a>; 5] {
+) -> ([Cell<'a>; 5], Option<u32>) {
     let Some((ordinal, at)) = nearest_export(exports, first, rva) else {
-        return [NOTHING; 5];
+        return ([NOTHING; 5], None);
     };
     let (number, name) = match name_of(exports, ordinal) {
         Some(name) => (NOTHING, Cell::Name(name)),
@@ -123,7 +122,22 @@ fn export_cells<'a, A: Allocator + Copy>(
         0 => (NOTHING, NOTHING),
         distance => (Plain(Text(b"+0x")), Plain(Hex(u64::from(distance), 1))),
     };
-    [Plain(Text(b"  export ")), number, name, plus, distance]
+    let cells = [Plain(Text(b"  export ")), number, name, plus, distance];
+    (cells, Some(at))
+}
+
+/// The last symbol at or before an RVA in its section, if it is after the RVA of the last export, like `  symbol crc32+0x10`.
+fn nearer_symbol_cells<'a>(
+    symbols: &[PlacedSymbol<'a>],
+    first: u32,
+    rva: u32,
+    exported: Option<u32>,
+) -> [Cell<'a>; 4] {
+    let from = match exported {
+        Some(at) => first.max(at.saturating_add(1)),
+        None => first,
+    };
+    symbol_cells(nearest_symbol(symbols, from, rva), u64::from(rva))
 }
 
 /// The import whose slot contains an RVA, like `  slot of KERNEL32.dll Sleep`.
@@ -223,14 +237,19 @@ pub(crate) fn where_cells<'a>(
 }
 
 /// What stands at an RVA in the headers or a table, like `descriptor 3 of the import table`.
-fn row_at<A: Allocator + Copy>(layout: &Layout, tables: &Tables<A>, rva: u32) -> Option<RowName> {
+fn row_at<A: Allocator + Copy>(
+    layout: &Layout,
+    headers: &Headers,
+    tables: &Tables<A>,
+    rva: u32,
+) -> Option<RowName> {
     let named = match layout.locate(rva) {
-        Located::Header { file } => header_row(layout.headers(), file),
+        Located::Header { file } => header_row(headers, file),
         _ => None,
     };
     match named {
         Some(row) => Some(row),
-        None => table_row(layout, tables, rva),
+        None => table_row(layout, headers, tables, rva),
     }
 }
 
@@ -248,26 +267,28 @@ fn write_bytes<W: Sink>(text: &mut TextWriter<W>, layout: &Layout, rva: u32)
     text.text(b"\n");
 }
 
-/// Adds what is at an RVA of an image.
-fn write_at<A: Allocator + Copy, W: Sink>(
+/// Adds what is at an RVA of an image with its first byte at `base`, without the end of the line.
+fn write_line<A: Allocator + Copy, W: Sink>(
     text: &mut TextWriter<W>,
-    layout: &Layout,
-    tables: &Tables<A>,
-    leaves: &[Leaf],
+    image: &AtImage<A>,
+    headers: &Headers,
     names: &SectionNames,
+    base: u64,
     rva: u32,
 )
     requires { IsReady W.failures text.old }
     ensures { AddsSome W.taken W.failures text.old text.new }
 {
+    let layout = &image.layout;
+    let tables = &image.tables;
     let section = section_of(layout, rva);
     let (first, flags) = match section {
         Some((first, flags)) => (first, Some(flags)),
         None => (u32::MAX, None),
     };
-    let exported = match &tables.exports {
+    let (export, exported) = match &tables.exports {
         Some(exports) => export_cells(exports, first, rva),
-        None => [NOTHING; 5],
+        None => ([NOTHING; 5], None),
     };
     let slot = match &tables.imports {
         Some(imports) => slot_cells(imports, layout.slot_width(), rva),
@@ -278,19 +299,54 @@ fn write_at<A: Allocator + Copy, W: Sink>(
         None => [NOTHING; 7],
     };
     let place = names.place(layout, rva);
-    write_cells(text, &where_cells(layout.image_base(), rva, place, flags));
-    write_cells(text, &exported);
+    write_cells(text, &where_cells(base, rva, place, flags));
+    write_cells(text, &export);
+    write_cells(
+        text,
+        &nearer_symbol_cells(&image.symbols, first, rva, exported),
+    );
     write_cells(text, &slot);
     write_cells(text, &field);
     write_cells(text, &function_cells(layout, rva));
-    write_cells(text, &row_cells(row_at(layout, tables, rva)));
-    write_leaf_at(text, layout, leaves, rva);
-    write_bytes(text, layout, rva);
+    write_cells(text, &row_cells(row_at(layout, headers, tables, rva)));
+    write_leaf_at(text, layout, &image.leaves, rva);
+}
+
+/// Adds what is at an RVA of an image whose first byte is at the address `base`: a line without its end, as [`at`](crate::at) writes it
+/// for an image at its ImageBase.
+pub fn write_place<A: Allocator + Copy, W: Sink>(
+    text: &mut TextWriter<W>,
+    image: &AtImage<A>,
+    base: u64,
+    rva: u32,
+)
+    requires { IsReady W.failures text.old }
+    ensures { AddsSome W.taken W.failures text.old text.new }
+{
+    let headers = image.layout.headers();
+    let names = SectionNames::new(image.file, &headers);
+    write_line(text, image, &headers, &names, base, rva);
+}
+
+/// Adds what is at an RVA of an image at its ImageBase, and the bytes from there on.
+fn write_at<A: Allocator + Copy, W: Sink>(
+    text: &mut TextWriter<W>,
+    image: &AtImage<A>,
+    headers: &Headers,
+    names: &SectionNames,
+    rva: u32,
+)
+    requires { IsReady W.failures text.old }
+    ensures { AddsSome W.taken W.failures text.old text.new }
+{
+    write_line(text, image, headers, names, image.layout.image_base(), rva);
+    write_bytes(text, &image.layout, rva);
 }
 
 /// The RVA of a spot of the image, or what is said of one that has none.
 fn rva_at(
     layout: &Layout,
+    headers: &Headers,
     strings: Option<ImageStrings>,
     spot: &Spot,
 ) -> Result<u32, &'static [u8]> {
@@ -300,7 +356,7 @@ fn rva_at(
             None => Err(OUTSIDE),
         },
         Spot::In { section, offset } => {
-            match offset_in_section(layout.headers(), strings, section, *offset) {
+            match offset_in_section(headers, strings, section, *offset) {
                 Ok((_, rva)) => Ok(rva),
                 Err(words) => Err(words),
             }
@@ -311,37 +367,33 @@ fn rva_at(
 /// Adds what is at a spot of an image.
 fn write_spot<A: Allocator + Copy, W: Sink>(
     text: &mut TextWriter<W>,
-    file: ViewFile,
-    layout: &Layout,
-    tables: &Tables<A>,
-    leaves: &[Leaf],
+    image: &AtImage<A>,
+    headers: &Headers,
     names: &SectionNames,
     spot: &Spot,
 )
     requires { IsReady W.failures text.old }
     ensures { AddsSome W.taken W.failures text.old text.new }
 {
-    match rva_at(layout, file.strings(layout.headers()), spot) {
-        Ok(rva) => write_at(text, layout, tables, leaves, names, rva),
-        Err(words) => write_unlaid(text, file, layout.headers(), spot, words),
+    match rva_at(&image.layout, headers, image.file.strings(headers), spot) {
+        Ok(rva) => write_at(text, image, headers, names, rva),
+        Err(words) => write_unlaid(text, image.file, headers, spot, words),
     }
 }
 
 /// Adds what is at each of some spots of an image.
 fn write_spots<A: Allocator + Copy, W: Sink>(
     text: &mut TextWriter<W>,
-    file: ViewFile,
-    layout: &Layout,
-    tables: &Tables<A>,
-    leaves: &[Leaf],
+    image: &AtImage<A>,
     spots: &[Spot],
 )
     requires { IsReady W.failures text.old }
     ensures { AddsSome W.taken W.failures text.old text.new }
 {
-    let names = SectionNames::new(file, layout.headers());
+    let headers = image.layout.headers();
+    let names = SectionNames::new(image.file, &headers);
     for spot in spots {
-        write_spot(text, file, layout, tables, leaves, &names, spot);
+        write_spot(text, image, &headers, &names, spot);
     }
 }
 
@@ -358,17 +410,14 @@ fn write_fault<W: Sink>(text: &mut TextWriter<W>, fault: Option<Fault>)
 /// Adds what is at some spots of an image that is laid out, after the line of its fault if it has one.
 fn write_laid_out<A: Allocator + Copy, W: Sink>(
     text: &mut TextWriter<W>,
-    file: ViewFile,
-    layout: &Layout,
-    tables: &Tables<A>,
-    leaves: &[Leaf],
+    image: &AtImage<A>,
     spots: &[Spot],
 )
     requires { IsReady W.failures text.old }
     ensures { AddsSome W.taken W.failures text.old text.new }
 {
-    write_fault(text, tables.fault);
-    write_spots(text, file, layout, tables, leaves, spots);
+    write_fault(text, image.tables.fault);
+    write_spots(text, image, spots);
 }
 
 /// Adds the line of one of faults 1 to 15, and what the headers say of some spots if they have no fault.
@@ -401,10 +450,9 @@ pub(crate) fn write_image_spots<A: Allocator + Copy, W: Sink>(
 {
     match file.lay_out() {
         Ok(layout) => {
-            let tables = read_whole_tables(alloc, &layout)?;
-            let tree = leaves(alloc, &layout)?;
-            write_laid_out(text, file, &layout, &tables, &tree.leaves, spots);
-            Ok(outcome_of(tables.fault))
+            let image = AtImage::new(alloc, file, layout)?;
+            write_laid_out(text, &image, spots);
+            Ok(outcome_of(image.tables.fault))
         }
         Err(fault) => {
             write_refused(text, file, fault, spots);

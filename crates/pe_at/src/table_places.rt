@@ -1,7 +1,7 @@
 //! What stands where in the tables of an image.
 
 use crate::row_name::RowName;
-use pe_head::{Directory, directory_index, directory_name};
+use pe_head::{Directory, Headers, directory_index, directory_name};
 use pe_image::Tables;
 use pe_layout::Layout;
 use std::alloc::Allocator;
@@ -190,6 +190,7 @@ fn other_row(directories: &[Directory], rva: u32) -> Option<RowName> {
 /// like `resource table`. The time is linear in the import and base relocation tables.
 pub(crate) fn table_row<A: Allocator + Copy>(
     layout: &Layout,
+    headers: &Headers,
     tables: &Tables<A>,
     rva: u32,
 ) -> Option<RowName> {
@@ -204,7 +205,7 @@ pub(crate) fn table_row<A: Allocator + Copy>(
         found = fixup_row(layout, rva);
     }
     if found.is_none() {
-        found = other_row(layout.headers().directories.as_slice(), rva);
+        found = other_row(headers.directories.as_slice(), rva);
     }
     found
 }

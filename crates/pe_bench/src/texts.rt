@@ -14,6 +14,7 @@ const WHOLE_PAGE: ShowOptions = ShowOptions {
     symbols: true,
     debug: true,
     functions: true,
+    unwind: true,
     tls: true,
     load: true,
     resources: true,

@@ -1,2 +1,3 @@
 mod Named
+pub mod Rows
 pub mod Vectors

@@ -1,10 +1,11 @@
 //! `Fields`: the fields of an image's headers, each read at its offset and width.
 
-ghost use Rattle.std.specs.Prelude.{◌≡◌, ℕ, ◌+◌, ◌≤◌, ◌*◌, ◌^◌, ◌<◌, if◌then◌else◌, map};
+ghost use Rattle.std.specs.Prelude.{◌≡◌, ℕ, ◌+◌, ◌≤◌, ◌*◌, ◌^◌, ◌<◌, if◌then◌else◌, map, List, length, slice_index_or};
 ghost use Rattle.std.specs.List.{range_with_len};
 ghost use Rattle.pe_view.specs.View.{bytes_of, size_of};
 ghost use Rattle.pe_view.specs.Number.{num, byte_of};
 ghost use Rattle.pe_head.specs.Head.{head_of, directory_count, pe_offset, optional_start, coff_field, field, either_field, magic_of, is_pe32, fixed_size, directory_at, section_at, section_start};
+ghost use Rattle.pe_head.specs.Section.{section_header};
 
 use crate::directory::Directory;
 use crate::headers::Headers;
@@ -16,7 +17,7 @@ use pe_view::View;
 
 /// The fields of the headers, each read at its offset, in a file long enough for the optional header's fields before its
 /// directories.
-#[derive(Clone, Copy)]
+#[derive(Clone, Copy, Debug)]
 pub(crate) struct Fields<'a> {
     view: View<'a>,
     offset: u32,
@@ -69,6 +70,13 @@ impl<'a> Fields<'a> {
         ensures { result ≡ pe_offset (bytes_of self.now.view) }
     {
         self.offset
+    }
+
+    /// The form of the optional header.
+    pub fn magic(&self) -> Magic
+        ensures { result ≡ magic_of (bytes_of self.now.view) }
+    {
+        self.magic
     }
 
     /// A 2-byte field of the COFF header.
@@ -167,8 +175,15 @@ impl<'a> Fields<'a> {
         }
     }
 
+    /// How many directories the headers hold.
+    pub fn directory_count(&self) -> u64
+        ensures { result ≡ directory_count (bytes_of self.now.view) }
+    {
+        u64::from(self.u32_either(92, 108).min(16))
+    }
+
     /// Directory `index`, which is inside the file.
-    fn directory(&self, index: u64) -> Directory
+    pub fn directory(&self, index: u64) -> Directory
         requires small { index < 16 }
         requires held { optional_start (bytes_of self.now.view) + fixed_size (bytes_of self.now.view) + 8 * index + 8 ≤ size_of self.now.view }
         ensures { result ≡ directory_at (bytes_of self.now.view) index }
@@ -190,6 +205,19 @@ impl<'a> Fields<'a> {
     {
         let start = self.optional(u64::from(self.coff_u16(16)) + SECTION_HEADER_SIZE * index);
         SectionHeader::read(self.view, start)
+    }
+
+    /// The rows of the section table, which are inside the file.
+    pub fn rows(&self) -> &'a [[u8; 40]]
+        requires few { coff_field (bytes_of self.now.view) 2 2 ≤ 96 }
+        requires held { section_start (bytes_of self.now.view) (coff_field (bytes_of self.now.view) 2 2) ≤ size_of self.now.view }
+        ensures count { length result.now ≡ coff_field (bytes_of self.now.view) 2 2 }
+        ensures sections { (k : ℕ) (d : List ℕ) → k < length result.now → section_header (slice_index_or result.now k d) 0 ≡ section_at (bytes_of self.now.view) k }
+    {
+        let start = self.optional(u64::from(self.coff_u16(16)));
+        let size = SECTION_HEADER_SIZE * u64::from(self.coff_u16(2));
+        let (rows, _) = self.view.slice(start, size).unwrap().as_chunks::<40>();
+        rows
     }
 
     /// The first `count` directories.

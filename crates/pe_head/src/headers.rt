@@ -25,7 +25,7 @@ pub struct Headers {
     pub number_of_sections: u16,
     /// When the image was made, in seconds since 1970, as written.
     pub time_date_stamp: u32,
-    /// The file offset of the symbol table, which is not read.
+    /// The file offset of the symbol table, or 0 if there is none.
     pub pointer_to_symbol_table: u32,
     /// How many records the symbol table has.
     pub number_of_symbols: u32,
@@ -110,9 +110,29 @@ impl Headers {
     {
         row_offset(self.pe_offset, self.size_of_optional_header, index)
     }
+
+    /// A copy of these headers.
+    pub fn copy(&self) -> Headers
+        ensures { result ≡ self.now }
+    {
+        let mut directories = ArrayVec::new();
+        directories
+            .try_extend_from_slice(self.directories.as_slice())
+            .unwrap();
+        let mut sections = ArrayVec::new();
+        sections
+            .try_extend_from_slice(self.sections.as_slice())
+            .unwrap();
+        Headers {
+            directories,
+            sections,
+            ..*self
+        }
+    }
 }
 
-fn row_offset(pe_offset: u32, size_of_optional_header: u16, index: u8) -> u64
+/// The file offset of the header of section `index`.
+pub(crate) fn row_offset(pe_offset: u32, size_of_optional_header: u16, index: u8) -> u64
     ensures { result ≡ pe_offset + 24 + size_of_optional_header + 40 * index }
 {
     u64::from(pe_offset)

@@ -98,6 +98,22 @@ impl SectionHeader {
         }
     }
 
+    /// The section header that a row of a section table is.
+    #[inline]
+    pub fn of_row(row: &[u8; 40]) -> SectionHeader
+        ensures { result ≡ section_header row.now 0 }
+    {
+        SectionHeader::read(View::new(row), 0)
+    }
+
+    /// The VirtualAddress in a row of a section table.
+    #[inline]
+    pub fn virtual_address_of_row(row: &[u8; 40]) -> u32
+        ensures { result ≡ (section_header row.now 0).virtual_address }
+    {
+        u32_in(View::new(row), 12)
+    }
+
     /// The section's size in the laid-out image: VirtualSize, or SizeOfRawData if VirtualSize is 0.
     pub fn extent(&self) -> u32
         ensures { result ≡ extent self.now }

@@ -153,8 +153,8 @@ fn write_accepted<A: Allocator + Copy, W: Sink>(
     let names = NamesByOrdinal::new(alloc, &image.exports)?;
     let headers = image.layout.headers();
     let content = Content {
-        headers,
-        strings: file.strings(headers),
+        headers: &headers,
+        strings: file.strings(&headers),
         exports: &image.exports,
         names: &names,
         imports: &image.imports,

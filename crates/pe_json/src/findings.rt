@@ -88,8 +88,8 @@ pub(crate) fn findings_of<A: Allocator + Copy>(
     all.extend_from_slice(delay_findings(alloc, layout)?.as_slice())?;
     all.extend_from_slice(tree)?;
     all.extend_from_slice(version_findings(alloc, layout)?.as_slice())?;
-    add_trust(&mut all, file, layout.headers())?;
-    let symbols = symbol_findings(alloc, layout.image(), file, layout.headers())?;
+    add_trust(&mut all, file, &layout.headers())?;
+    let symbols = symbol_findings(alloc, layout.image(), file, &layout.headers())?;
     all.extend_from_slice(symbols.as_slice())?;
     Ok(all)
 }

@@ -58,7 +58,7 @@ fn print_parts<A: Allocator + Copy, W: Sink>(
         bytes,
     } = parts;
     let strings = ImageStrings::new(View::new(&bytes), &packed);
-    match read_packed(alloc, &bytes, packed, 0) {
+    match read_packed(alloc, &bytes, &packed, 0) {
         Ok(Some(tables)) => {
             let Ok(names) = NamesByOrdinal::new(alloc, &tables.exports) else {
                 return Err(ToolError::Memory);

@@ -82,8 +82,8 @@ pub(crate) fn write_beyond<A: Allocator + Copy, W: Sink>(
     write_records(text, beyond.functions, layout);
     write_delay_imports(text, layout, delayed);
     write_resources(text, layout, leaves);
-    write_image_symbols(alloc, text, beyond.symbols, file, layout.headers());
-    write_trust(text, beyond.digests, file, layout.headers());
+    write_image_symbols(alloc, text, beyond.symbols, file, &layout.headers());
+    write_trust(text, beyond.digests, file, &layout.headers());
     write_import_hash(text, imports);
     write_findings(text, findings);
 }

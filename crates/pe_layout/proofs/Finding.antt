@@ -11,7 +11,7 @@ use Rattle.pe_head.specs.declared.section.SectionHeader.{SectionHeader}
 use Rattle.pe_head.specs.declared.headers.Headers.{Headers}
 use Rattle.pe_layout.specs.Piece.{end_of, holds, section_of, section_index}
 use Rattle.pe_layout.specs.Plain.{IsIn}
-use Rattle.pe_layout.specs.Sections.{IsInSectionAt, IsInGap}
+use Rattle.pe_layout.specs.Sections.{IsInSectionAt, IsInGap, LieApart, gap_end}
 use Rattle.pe_layout.proofs.SectionPlaces.{AllPlaced, starts_ascend}
 
 module _ {X : Type 0} (p : X → Bool) (xs : List X) where
@@ -39,6 +39,14 @@ module _ {X : Type 0} (p : X → Bool) (xs : List X) where
       let is : position_or_len p xs ≡ length xs = position_or_len_is p xs (length xs) d (omega arith) none (λ lt. absurd (omega arith)) in
       let test : nat_lt (length xs) (length xs) ≡ false = le-ltb _ _ (omega arith) in
       (find_at p xs ∙ ap (slice_get xs) is ∙ slice_get_past xs (length xs) (omega arith), rw (is, test) refl)
+
+-- the sections up to one that begins and ends at or before an RVA end there or before
+pub ended : (ss : List SectionHeader) → LieApart ss → (r last j : ℕ) (d : SectionHeader) → j ≤ last → last < length ss → (get_or ss last d).virtual_address ≤ r → end_of (get_or ss last d) ≤ r
+    → end_of (get_or ss j d) ≤ r
+ended ss apart r last j d le lt begins ends = elim (cases_lt j last) [
+  | inl below ↦ (let a = apart j last d below lt in omega arith)
+  | inr above ↦ (let e : j ≡ last = omega arith in rw e ends)
+]
 
 pub holds_in : (r : ℕ) (s : SectionHeader) → s.virtual_address ≤ r → r < end_of s → holds r s ≡ true
 holds_in r s low high = and_from _ _ (le-leb _ _ low) (lt-ltb _ _ high)
@@ -99,6 +107,14 @@ module _ (h : Headers) (size : ℕ) (placed : AllPlaced h size 0 h.sections.item
         some = below;
         inside = omega arith;
       }
+
+  -- an RVA is in the gap before section i, or after the last section
+  pub in_gap_before : (i r : ℕ) (d : SectionHeader) → i ≤ length h.sections.items → ((j : ℕ) → j < i → end_of (get_or h.sections.items j d) ≤ r)
+      → ((j : ℕ) → i ≤ j → j < length h.sections.items → r < (get_or h.sections.items j d).virtual_address) → r < h.size_of_image → IsInGap h r (gap_end h i)
+  in_gap_before i r d le before after inside = elim (cases_lt i (length h.sections.items)) [
+    | inl lt ↦ rw (slice_get-get_or h.sections.items i d lt) (in_gap i r d lt before (after i (omega arith) lt))
+    | inr past ↦ rw (slice_get_past h.sections.items i past) (in_last_gap r d (λ j lt. before j (omega arith)) inside)
+  ]
 
   -- no section contains an RVA outside the image
   pub in_none : (r : ℕ) (d : SectionHeader) → h.size_of_image ≤ r → section_of h r ≡ None

@@ -1,4 +1,5 @@
 pub mod Accepted
+pub mod Begun
 pub mod Finding
 pub mod OfLayout
 pub mod Parts

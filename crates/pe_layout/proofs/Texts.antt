@@ -1,8 +1,8 @@
 -- The strings of an image are parts of its file.
-use Rattle.std.proofs.Common.{◌≡◌, ℕ, zero, suc, ◌+◌, ◌-◌, ◌<◌, ◌≤◌, Bool, true, false, cond, List, ◌++◌, length, Option, Some, None, refl, sym, ap, ◌∙◌, arith, inl, inr}
+use Rattle.std.proofs.Common.{◌≡◌, ℕ, zero, suc, ◌+◌, ◌-◌, ◌<◌, ◌≤◌, Bool, true, false, cond, List, [], ◌++◌, length, Option, Some, None, refl, sym, ap, ◌∙◌, arith, inl, inr}
 use Rattle.std.specs.Prelude.{nat_lt, nat_le, replicate, option_map, IsSome, IfSome, if◌then◌else◌}
 use Rattle.std.specs.Option.{option_or}
-use Rattle.std.proofs.lemmas.Bool.{lt-ltb, le-ltb, le-leb, lt-leb, ltb-true, cases_lt}
+use Rattle.std.proofs.lemmas.Bool.{lt-ltb, le-ltb, le-leb, lt-leb, ltb-true, ltb-false, cases_lt}
 use Rattle.pe_view.specs.Number.{part}
 use Rattle.pe_view.specs.Text.{zero_ended, text_between}
 use Rattle.pe_head.specs.declared.section.SectionHeader.{SectionHeader}
@@ -34,6 +34,10 @@ header_text h file r held fits lt =
     let bytes = (header_run h file r m held fits (omega arith) (omega arith)).run.bytes_are in
     ap (text_between file r) end ∙ text_between-part file r m (omega arith) ∙ sym (rw (outside, inside) (ap zero_ended bytes))
 
+ended_at_once : (n : ℕ) → 0 < n → zero_ended (replicate n 0) ≡ Some []
+ended_at_once zero lt = absurd (omega (arith, lt))
+ended_at_once (suc n) lt = refl
+
 module _ (h : Headers) (file : List ℕ) (s : SectionHeader) (r : ℕ) (past : h.size_of_headers ≤ r) (found : IsInSection h (length file) r s) where
   -- the string in a section's raw data, by the search for its end
   pub raw_text : (o m n : ℕ) → r - s.virtual_address < rawlen s → o ≡ s.pointer_to_raw_data + (r - s.virtual_address) → m ≡ rawlen s - (r - s.virtual_address) → n ≡ extent s - rawlen s
@@ -49,6 +53,17 @@ module _ (h : Headers) (file : List ℕ) (s : SectionHeader) (r : ℕ) (past : h
       let bytes : plain_bytes h file r (end_of s - r) ≡ part file o m ++ replicate n 0 =
       ap (plain_bytes h file r) whole ∙ map_split (plain h file) r m n ∙ ap (λ (xs : List ℕ). xs ++ plain_bytes h file (r + m) n) raw ∙ ap (λ (xs : List ℕ). part file o m ++ xs) zeros in
       ap zero_ended bytes ∙ zero_ended-zeros (part file o m) n ∙ ap (λ (t : Option (List ℕ)). with_zeros t (part file o m) n) (sym (text_between-part file o m (omega arith)))
+
+  -- the string in a section's zero fill
+  pub zero_text : rawlen s ≤ r - s.virtual_address → section_text h file r (Some s) ≡ Some []
+  zero_text le =
+      let low = found.inside.low in
+      let high = found.inside.high in
+      ap zero_ended (zero_bytes h file s r r (end_of s - r) past found (omega arith) (omega arith) (omega arith)) ∙ ended_at_once (end_of s - r) (omega arith)
+
+-- an empty span
+pub empty_text : (file : List ℕ) → option_or (text_between file 0 0) (Some (part file 0 0)) ≡ Some []
+empty_text file = ap (λ (t : Option (List ℕ)). option_or t (Some [])) (text_between-part file 0 0 (omega arith))
 
 pub with_zeros_some : (bytes : List ℕ) (n : ℕ) → 0 < n → with_zeros None bytes n ≡ Some bytes
 with_zeros_some bytes zero lt = absurd (omega arith)
@@ -79,3 +94,11 @@ pub rest_of-raw : (s : SectionHeader) (r o m : ℕ) → Raw o m ≡ rest_of s r 
 rest_of-raw s r o m e =
     let p = raw_by_test (nat_lt (r - s.virtual_address) (rawlen s)) o m _ _ _ e in
     (ltb-true _ _ p.0, p.1, p.2)
+
+zeros_by_test : (b : Bool) (o m n n' : ℕ) → Zeros n ≡ cond b (Raw o m) (Zeros n') → b ≡ false
+zeros_by_test true o m n n' e = absurd cc
+zeros_by_test false o m n n' e = refl
+
+-- what remains of a section is zero fill
+pub rest_of-zeros : (s : SectionHeader) (r n : ℕ) → Zeros n ≡ rest_of s r → rawlen s ≤ r - s.virtual_address
+rest_of-zeros s r n e = ltb-false _ _ (zeros_by_test (nat_lt (r - s.virtual_address) (rawlen s)) _ _ n _ e)

@@ -4,13 +4,14 @@ use Rattle.pe_view.specs.View.{bytes_of}
 use Rattle.pe_view.specs.Faults.{first_standing}
 use Rattle.pe_head.specs.Head.{head_of}
 use Rattle.pe_head.specs.declared.headers.Headers.{Headers}
+use Rattle.pe_layout.specs.HeaderSource.{headers_in}
 use Rattle.pe_layout.specs.Image.{LaidOut, image_from, image_of_file}
 use Rattle.pe_layout.specs.SectionFaults.{placing_tests}
 use Rattle.pe_layout.specs.declared.layout.Layout.{Layout}
 
 -- its headers
 abbrev pub headers_of : Layout → Headers
-headers_of l = l.headers
+headers_of l = headers_in l.headers
 
 -- the bytes of its file
 abbrev pub file_of : Layout → List ℕ

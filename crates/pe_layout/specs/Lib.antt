@@ -4,9 +4,11 @@ pub use Rattle.pe_view.specs.Number
 pub use Rattle.pe_view.specs.Text
 pub use Rattle.pe_view.specs.TextEnds
 pub use Rattle.pe_view.specs.View
+pub use Rattle.pe_head.specs.Checked
 pub use Rattle.pe_head.specs.Head
 pub use Rattle.pe_head.specs.HeaderFaults
 pub use Rattle.pe_head.specs.Section
+pub mod HeaderSource
 pub mod Image
 pub mod Layout
 pub mod Locating

@@ -1,6 +1,6 @@
 -- How the sections of an image lie, which a search among them relies on, and what it finds. No contract of a public function uses
 -- this module.
-use Rattle.std.specs.Prelude.{◌≡◌, ℕ, ◌+◌, ◌<◌, ◌≤◌, List, length, slice_index_or, None, Some}
+use Rattle.std.specs.Prelude.{◌≡◌, ℕ, ◌+◌, ◌<◌, ◌≤◌, List, length, slice_index_or, slice_get, option_map, unwrap_or, None, Some}
 use Rattle.pe_head.specs.declared.section.SectionHeader.{SectionHeader}
 use Rattle.pe_head.specs.declared.headers.Headers.{Headers}
 use Rattle.pe_head.specs.Section.{rawlen}
@@ -27,6 +27,10 @@ pub record IsInGap (h : Headers) (r end : ℕ) : Type 0 where
   pub some : r < end
   pub inside : end ≤ h.size_of_image
 
+-- where the gap ends that is before section i, or after the last section
+abbrev pub gap_end : Headers → ℕ → ℕ
+gap_end h i = unwrap_or (option_map (λ s. s.virtual_address) (slice_get h.sections.items i)) h.size_of_image
+
 -- an RVA is in section i
 pub record IsInSectionAt (h : Headers) (size r i : ℕ) (s : SectionHeader) : Type 0 where
   pub index : section_index h r ≡ Some i
@@ -34,5 +38,5 @@ pub record IsInSectionAt (h : Headers) (size r i : ℕ) (s : SectionHeader) : Ty
 
 -- where an RVA after the headers is
 abbrev pub IsSpot : Headers → ℕ → ℕ → Spot → Type 0
-IsSpot h size r (Section i s) = IsInSectionAt h size r i s.now
+IsSpot h size r (Section i s) = IsInSectionAt h size r i s
 IsSpot h size r (Gap end) = IsInGap h r end

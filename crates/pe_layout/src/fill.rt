@@ -47,15 +47,16 @@ impl<'a> Layout<'a> {
         requires { rva < (image_of self.now).size }
         ensures { IsRun (headers_of self.now) (file_of self.now) rva result }
     {
-        if rva < self.headers.size_of_headers {
+        let header_bytes = self.size_of_headers();
+        if rva < header_bytes {
             return Run::Raw {
                 file: u64::from(rva),
-                len: self.headers.size_of_headers - rva,
+                len: header_bytes - rva,
             };
         }
         match self.spot(rva) {
             Spot::Gap { end } => Run::Zeros { len: end - rva },
-            Spot::Section { index: _, section } => rest_of(section, rva),
+            Spot::Section { index: _, section } => rest_of(&section, rva),
         }
     }
 
@@ -93,7 +94,7 @@ impl<'a> Layout<'a> {
         ensures filled { OnTrue result (buffer.new ≡ bytes_at (image_of self.now) rva (length buffer.old)) }
         ensures unchanged { OnFalse result (buffer.new ≡ buffer.old) }
     {
-        let size = self.headers.size_of_image;
+        let size = self.size_of_image();
         if rva > size || buffer.len() > (size - rva) as usize {
             return false;
         }
@@ -140,7 +141,7 @@ impl<'a> Layout<'a> {
     pub fn byte(&self, rva: u32) -> Option<u8>
         ensures { SomeIff result (rva < (image_of self.now).size) ((image_of self.now).byte rva) }
     {
-        if rva >= self.headers.size_of_image {
+        if rva >= self.size_of_image() {
             return None;
         }
         match self.run_at(rva) {

@@ -3,10 +3,14 @@
 ghost use Rattle.std.specs.Prelude.{◌≡◌, ◌+◌, ◌≤◌, ◌^◌, ◌⊎◌, ◌==◌, ◌&&◌, ◌||◌, None, IsTrue};
 ghost use Rattle.pe_view.specs.View.{size_of};
 ghost use Rattle.pe_view.specs.Faults.{first_standing};
+ghost use Rattle.pe_layout.specs.HeaderSource.{headers_in};
 ghost use Rattle.pe_layout.specs.SectionFaults.{placing_tests};
 
-use crate::section_faults::check_sections;
-use pe_head::{Directory, Headers, characteristic, directory_index, read_headers};
+use crate::header_source::HeaderSource;
+use crate::section_faults::check_placing;
+use pe_head::{
+    Directory, Headers, Magic, SectionHeader, characteristic, check_headers, directory_index,
+};
 use pe_view::{Fault, View};
 
 /// The most bytes that an image may have.
@@ -18,19 +22,25 @@ const MOST_IMAGE_BYTES: u32 = 1 << 31;
 #[derive(Debug, Drop)]
 pub struct Layout<'a> {
     pub(crate) view: View<'a>,
-    pub(crate) headers: Headers,
-    pub(crate) image: u16,
-    ghost small: { headers.size_of_image ≤ 2 ^ 31 },
-    ghost headers_held: { headers.size_of_headers ≤ size_of view },
-    ghost headers_inside: { headers.size_of_headers ≤ headers.size_of_image },
-    ghost sections_placed: { first_standing (placing_tests image headers (size_of view)) ≡ None },
+    pub(crate) headers: HeaderSource<'a>,
+    /// SizeOfImage.
+    size: u32,
+    /// SizeOfHeaders.
+    header_bytes: u32,
+    image: u16,
+    ghost size_is: { size ≡ (headers_in headers).size_of_image },
+    ghost header_bytes_are: { header_bytes ≡ (headers_in headers).size_of_headers },
+    ghost small: { (headers_in headers).size_of_image ≤ 2 ^ 31 },
+    ghost headers_held: { (headers_in headers).size_of_headers ≤ size_of view },
+    ghost headers_inside: { (headers_in headers).size_of_headers ≤ (headers_in headers).size_of_image },
+    ghost sections_placed: { first_standing (placing_tests image (headers_in headers) (size_of view)) ≡ None },
 }
 
 impl<'a> Layout<'a> {
     ghost use Rattle.pe_view.specs.View.{bytes_of};
     ghost use Rattle.pe_view.specs.Faults.{Answers};
     ghost use Rattle.pe_layout.specs.SectionFaults.{layout_tests};
-    ghost use Rattle.std.specs.Prelude.{IfSome, is_some};
+    ghost use Rattle.std.specs.Prelude.{IfSome, is_some, length, slice_get};
     ghost use Rattle.pe_layout.specs.Image.{is_inside, image_from};
     ghost use Rattle.pe_layout.specs.Layout.{headers_of, file_of, image_of, IsLayoutOf, can_lay_out};
 
@@ -40,11 +50,13 @@ impl<'a> Layout<'a> {
     pub fn new(view: View<'a>, image: u16) -> Result<Layout<'a>, Fault>
         ensures { Answers (layout_tests image (bytes_of view.entry)) (IsLayoutOf (bytes_of view.entry) image) result }
     {
-        let headers = read_headers(view, image)?;
-        check_sections(&headers, view.len(), image)?;
+        let headers = HeaderSource::File(check_headers(view, image)?);
+        check_placing(&headers, view.len(), image)?;
         Ok(Layout {
             view,
             headers,
+            size: headers.size_of_image(),
+            header_bytes: headers.size_of_headers(),
             image,
         })
     }
@@ -52,35 +64,77 @@ impl<'a> Layout<'a> {
     /// The layout of headers over bytes that need not hold these headers: bytes of a file of which some sections' raw data were not
     /// read. `None` if the image is larger than 2^31 bytes, the headers are larger than the image or than the bytes, or a section has
     /// one of faults 13 to 15 in a file of these bytes.
-    #[tactic(auto, unfolding(crate::specs::Layout::image_of))]
-    pub fn of_parts(view: View<'a>, headers: Headers, image: u16) -> Option<Layout<'a>>
-        ensures placed { is_some result ≡ can_lay_out image headers (size_of view.entry) }
-        ensures headers { IfSome result (λ layout. headers_of layout ≡ headers) }
+    #[tactic(auto, unfolding(crate::specs::Layout::image_of, crate::specs::HeaderSource::headers_in))]
+    pub fn of_parts(view: View<'a>, headers: &'a Headers, image: u16) -> Option<Layout<'a>>
+        ensures placed { is_some result ≡ can_lay_out image headers.entry.now (size_of view.entry) }
+        ensures headers { IfSome result (λ layout. headers_of layout ≡ headers.entry.now) }
         ensures bytes { IfSome result (λ layout. file_of layout ≡ bytes_of view.entry) }
-        ensures shows { IfSome result (λ layout. image_of layout ≡ image_from image headers (bytes_of view.entry)) }
+        ensures shows { IfSome result (λ layout. image_of layout ≡ image_from image headers.entry.now (bytes_of view.entry)) }
     {
+        let size = headers.size_of_image;
         let header_bytes = headers.size_of_headers;
-        if headers.size_of_image > MOST_IMAGE_BYTES || header_bytes > headers.size_of_image {
+        if size > MOST_IMAGE_BYTES || header_bytes > size {
             return None;
         }
         if u64::from(header_bytes) > view.len() {
             return None;
         }
-        if check_sections(&headers, view.len(), image).is_err() {
+        let headers = HeaderSource::Record(headers);
+        if check_placing(&headers, view.len(), image).is_err() {
             return None;
         }
         Some(Layout {
             view,
             headers,
+            size,
+            header_bytes,
             image,
         })
     }
 
-    /// The headers of the image's file.
-    pub fn headers(&self) -> &Headers
-        ensures { result.now ≡ headers_of self.now }
+    /// A copy of the headers of the image's file. The calls below read one of them without a copy.
+    pub fn headers(&self) -> Headers
+        ensures { result ≡ headers_of self.now }
     {
-        &self.headers
+        self.headers.headers()
+    }
+
+    /// The form of the optional header.
+    pub fn magic(&self) -> Magic
+        ensures { result ≡ (headers_of self.now).magic }
+    {
+        self.headers.magic()
+    }
+
+    /// The machine that the image is for.
+    pub fn machine(&self) -> u16
+        ensures { result ≡ (headers_of self.now).machine }
+    {
+        self.headers.machine()
+    }
+
+    /// How many bytes of the image are headers: SizeOfHeaders.
+    pub fn size_of_headers(&self) -> u32
+        ensures { result ≡ (headers_of self.now).size_of_headers }
+    {
+        self.header_bytes
+    }
+
+    /// How many sections there are, at most 96.
+    pub fn section_count(&self) -> usize
+        ensures { result ≡ length (headers_of self.now).sections.items }
+    {
+        self.headers.section_count()
+    }
+
+    /// The header of the section of an index, if there is one.
+    pub fn section(&self, index: usize) -> Option<SectionHeader>
+        ensures { result ≡ slice_get (headers_of self.now).sections.items index }
+    {
+        if index >= self.headers.section_count() {
+            return None;
+        }
+        Some(self.headers.section(index))
     }
 
     /// The number by which faults name the image.
@@ -97,7 +151,15 @@ impl<'a> Layout<'a> {
         ensures value { result ≡ (image_of self.now).size }
         ensures small { result ≤ 2 ^ 31 }
     {
-        self.headers.size_of_image
+        self.size
+    }
+
+    /// The size of the image as the headers have it.
+    #[inline]
+    pub(crate) fn size_of_image(&self) -> u32
+        ensures { result ≡ (headers_of self.now).size_of_image }
+    {
+        self.size
     }
 
     /// The size of an import address table entry in bytes: 4 in PE32, 8 in PE32+.
@@ -106,7 +168,7 @@ impl<'a> Layout<'a> {
         ensures value { result ≡ (image_of self.now).slot_width }
         ensures width { (result ≡ 4) ⊎ (result ≡ 8) }
     {
-        self.headers.magic.image_base_width() as u32
+        self.headers.magic().image_base_width() as u32
     }
 
     /// The preferred address of the image: ImageBase.
@@ -114,7 +176,7 @@ impl<'a> Layout<'a> {
     pub fn image_base(&self) -> u64
         ensures { result ≡ (image_of self.now).image_base }
     {
-        self.headers.image_base
+        self.headers.image_base()
     }
 
     /// Whether the image must be loaded at its ImageBase, since it has no base relocations: the flag RELOCS_STRIPPED.
@@ -122,7 +184,7 @@ impl<'a> Layout<'a> {
     pub fn is_stripped(&self) -> bool
         ensures { result ≡ (image_of self.now).is_stripped }
     {
-        self.headers.characteristics % 2 == characteristic::RELOCS_STRIPPED
+        self.headers.characteristics() % 2 == characteristic::RELOCS_STRIPPED
     }
 
     /// Whether `len` bytes at an RVA are inside the image, which has at most 2^31 bytes. For `len` 0 the RVA may be the image's
@@ -142,7 +204,7 @@ impl<'a> Layout<'a> {
     pub fn directory(&self, index: usize) -> Option<Directory>
         ensures { result ≡ (image_of self.now).directory index }
     {
-        let directory = *self.headers.directories.as_slice().get(index)?;
+        let directory = self.headers.directory(index)?;
         if is_absent(index, directory) {
             return None;
         }

@@ -1,11 +1,8 @@
 //! `Layout::locate`: what is at an RVA of the image, found by a binary search among the sections.
 
-ghost use Rattle.std.specs.Prelude.{◌≡◌, ◌≤◌, ◌<◌, ℕ, length, slice_index_or};
+ghost use Rattle.std.specs.Prelude.{◌≡◌, ◌≤◌, ◌<◌, ℕ};
 ghost use Rattle.pe_view.specs.View.{size_of};
-ghost use Rattle.pe_head.specs.declared.section.SectionHeader.{SectionHeader};
-ghost use Rattle.pe_layout.specs.Piece.{end_of};
 ghost use Rattle.pe_layout.specs.Locating.{located_in};
-ghost use Rattle.pe_layout.specs.Sections.{LieApart};
 
 use crate::layout::Layout;
 use crate::section_faults::end_of;
@@ -27,68 +24,55 @@ pub enum Located {
 }
 
 /// Where an RVA after the headers is.
-pub(crate) enum Spot<'s> {
+pub(crate) enum Spot {
     /// In this section.
-    Section {
-        index: u8,
-        section: &'s SectionHeader,
-    },
+    Section { index: u8, section: SectionHeader },
     /// In a gap, which goes on at least up to this RVA.
-    Gap {
-        end: u32,
-    },
-}
-
-/// The index of the first section that ends after an RVA, or the number of sections.
-///
-/// A binary search finds the last section that begins at or before the RVA. Only its end is compared: earlier sections end at or
-/// before its beginning.
-fn first_ending_after(sections: &[SectionHeader], rva: u32) -> usize
-    requires { LieApart sections.now }
-    ensures bound { result ≤ length sections.now }
-    ensures before { (k : ℕ) (s : SectionHeader) → k < result → end_of (slice_index_or sections.now k s) ≤ rva }
-    ensures after { (k : ℕ) (s : SectionHeader) → result ≤ k → k < length sections.now → rva < end_of (slice_index_or sections.now k s) }
-{
-    let begun = sections.partition_point(|section| section.virtual_address <= rva);
-    if begun == 0 {
-        return 0;
-    }
-    let last = begun - 1;
-    if end_of(&sections[last]) <= u64::from(rva) {
-        return begun;
-    }
-    last
+    Gap { end: u32 },
 }
 
 impl<'a> Layout<'a> {
-    ghost use Rattle.std.specs.Prelude.{◌+◌, length, option_map, IfSome, Some};
+    ghost use Rattle.std.specs.Prelude.{◌+◌, length, IfSome, Some};
     ghost use Rattle.pe_layout.specs.Image.{bytes_at};
     ghost use Rattle.pe_layout.specs.Piece.{section_of};
     ghost use Rattle.pe_layout.specs.Plain.{IsIn};
     ghost use Rattle.pe_layout.specs.Layout.{headers_of, image_of};
     ghost use Rattle.pe_layout.specs.Locating.{located};
-    ghost use Rattle.pe_layout.specs.Sections.{IsSpot};
+    ghost use Rattle.pe_layout.specs.Sections.{IsSpot, gap_end};
+
+    /// Where the gap ends that is before section `index`, or after the last section.
+    fn gap_end(&self, index: usize) -> u32
+        ensures { result ≡ gap_end (headers_of self.now) index }
+    {
+        if index >= self.headers.section_count() {
+            return self.size_of_image();
+        }
+        self.headers.section(index).virtual_address
+    }
 
     /// Where an RVA of the image after the headers is.
-    pub(crate) fn spot(&self, rva: u32) -> Spot<'_>
+    ///
+    /// A binary search finds the last section that begins at or before the RVA. Only its end is compared: earlier sections end at or
+    /// before its beginning.
+    #[inline]
+    pub(crate) fn spot(&self, rva: u32) -> Spot
         requires { rva < (headers_of self.now).size_of_image }
         ensures { IsSpot (headers_of self.now) (size_of self.now.view) rva result }
     {
-        let sections = self.headers.sections.as_slice();
-        let index = first_ending_after(sections, rva);
-        if index >= sections.len() {
+        let begun = self.headers.sections_begun(rva);
+        if begun == 0 {
             return Spot::Gap {
-                end: self.headers.size_of_image,
+                end: self.gap_end(0),
             };
         }
-        let section = &sections[index];
-        if rva < section.virtual_address {
+        let section = self.headers.section(begun - 1);
+        if end_of(&section) <= u64::from(rva) {
             return Spot::Gap {
-                end: section.virtual_address,
+                end: self.gap_end(begun),
             };
         }
         Spot::Section {
-            index: index as u8,
+            index: (begun - 1) as u8,
             section,
         }
     }
@@ -101,10 +85,10 @@ impl<'a> Layout<'a> {
         ensures len { length result.now ≡ (image_of self.now).raw_left rva }
         ensures inside { 0 < length result.now → rva + length result.now ≤ (image_of self.now).size }
     {
-        if rva >= self.headers.size_of_image {
+        if rva >= self.size_of_image() {
             return &[];
         }
-        let header_bytes = self.headers.size_of_headers;
+        let header_bytes = self.size_of_headers();
         if rva < header_bytes {
             let count = header_bytes - rva;
             return self.view.slice(u64::from(rva), u64::from(count)).unwrap();
@@ -124,12 +108,12 @@ impl<'a> Layout<'a> {
     }
 
     /// The section that contains an RVA, if there is one. No other section contains any of its RVAs.
-    pub fn section_at(&self, rva: u32) -> Option<&SectionHeader>
-        ensures found { option_map (λ section. section.now) result ≡ section_of (headers_of self.now) rva }
-        ensures inside { IfSome result (λ section. IsIn rva section.now) }
-        ensures alone { IfSome result (λ section. (k : ℕ) → IsIn k section.now → section_of (headers_of self.now) k ≡ Some section.now) }
+    pub fn section_at(&self, rva: u32) -> Option<SectionHeader>
+        ensures found { result ≡ section_of (headers_of self.now) rva }
+        ensures inside { IfSome result (IsIn rva) }
+        ensures alone { IfSome result (λ section. (k : ℕ) → IsIn k section → section_of (headers_of self.now) k ≡ Some section) }
     {
-        if rva >= self.headers.size_of_image {
+        if rva >= self.size_of_image() {
             return None;
         }
         match self.spot(rva) {
@@ -142,17 +126,17 @@ impl<'a> Layout<'a> {
     pub fn locate(&self, rva: u32) -> Located
         ensures { result ≡ located (headers_of self.now) rva }
     {
-        if rva >= self.headers.size_of_image {
+        if rva >= self.size_of_image() {
             return Located::Outside;
         }
-        if rva < self.headers.size_of_headers {
+        if rva < self.size_of_headers() {
             return Located::Header {
                 file: u64::from(rva),
             };
         }
         match self.spot(rva) {
             Spot::Gap { end: _ } => Located::Gap,
-            Spot::Section { index, section } => located_in(section, index, rva),
+            Spot::Section { index, section } => located_in(&section, index, rva),
         }
     }
 }

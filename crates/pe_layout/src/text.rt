@@ -71,8 +71,8 @@ impl<'a> Layout<'a> {
         ensures starts { IfSome result (λ span. (offset : ℕ) → file_offset (located (headers_of self.now) rva) ≡ Some offset → span.start ≡ offset) }
         ensures text { option_and_then (span_text (file_of self.now)) result ≡ (image_of self.now).text rva }
     {
-        let header_bytes = self.headers.size_of_headers;
-        if rva >= self.headers.size_of_image {
+        let header_bytes = self.size_of_headers();
+        if rva >= self.size_of_image() {
             return None;
         }
         if rva < header_bytes {
@@ -84,7 +84,7 @@ impl<'a> Layout<'a> {
         }
         match self.spot(rva) {
             Spot::Gap { end: _ } => Some(EMPTY),
-            Spot::Section { index: _, section } => Some(self.section_span(section, rva)),
+            Spot::Section { index: _, section } => Some(self.section_span(&section, rva)),
         }
     }
 

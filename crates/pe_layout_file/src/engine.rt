@@ -40,7 +40,7 @@ pub fn lay_out<W: Sink>(file: &[u8], most: u64, writer: &mut W) -> Result<ImageF
     if u64::from(layout.size()) > most {
         return Ok(ImageFile::TooLarge(layout.size()));
     }
-    write_image(writer, layout.headers(), file)?;
+    write_image(writer, &layout.headers(), file)?;
     Ok(ImageFile::Written)
 }
 

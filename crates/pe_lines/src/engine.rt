@@ -27,7 +27,7 @@ impl Report for CheckReport {
     ) -> Result<Outcome, AllocError> {
         match read_image(alloc, file, 0) {
             Ok(image) => {
-                write_accepted_line(text, image.layout.headers());
+                write_accepted_line(text, &image.layout.headers());
                 Ok(Outcome::Done)
             }
             Err(TableError::Fault(fault)) => Ok(refuse(text, fault)),
@@ -52,7 +52,7 @@ impl Report for DumpReport {
             Ok(image) => {
                 write_dump(
                     text,
-                    image.layout.headers(),
+                    &image.layout.headers(),
                     &image.exports,
                     &image.imports,
                     &image.fixups,

@@ -16,30 +16,35 @@ ghost use Rattle.pe_tables.specs.Imports.{imports_of};
 ghost use Rattle.pe_tables.specs.ImportView.{import_view};
 ghost use Rattle.pe_tables.specs.Key.{Ordinal, Name, target_view};
 ghost use Rattle.pe_image.specs.ImageTests.{image_tests};
+ghost use Rattle.pe_write.specs.Rebase.{rebased};
+ghost use Rattle.pe_write.specs.RebaseFaults.{rebase_tests};
 
 use pe_image::{Image, read_image};
 use pe_layout::Located;
 use pe_tables::{Fixup, Import, Target};
 use pe_view::Refusal;
+use pe_write::rebase_image;
 use std::alloc::Global;
 use std::marker::Model;
 
 /// An image without a fault, and the contents of its tables. It borrows the file, whose bytes are its value in contracts.
 #[derive(Drop)]
 pub struct OpenedImage<'a> {
+    file: &'a [u8],
     image: Image<'a, Global>,
 }
 
 impl<'a> Model for OpenedImage<'a> {
-    ghost use Rattle.std.specs.Prelude.{ℕ, List};
-    ghost use Rattle.pe_layout.specs.Layout.{file_of};
+    ghost use Rattle.std.specs.Prelude.{ℕ, List, None, ◌≡◌};
+    ghost use Rattle.pe_view.specs.Faults.{first_standing};
     ghost use Rattle.pe_image.specs.ImageOf.{IsImageOf};
+    ghost use Rattle.pe_image.specs.ImageTests.{image_tests};
 
     ghost Value = { List ℕ };
 
-    ghost view = { λ o. file_of o.image.layout };
+    ghost view = { λ o. o.file.now };
 
-    ghost invariant = { λ o. IsImageOf 0 (file_of o.image.layout) o.image };
+    ghost invariant = { λ o. (first_standing (image_tests 0 o.file.now) ≡ None) × IsImageOf 0 o.file.now o.image };
 }
 
 impl<'a> OpenedImage<'a> {
@@ -51,7 +56,14 @@ impl<'a> OpenedImage<'a> {
     {
         let mut image = read_image(alloc, file, 0)?;
         image.exports.guess_names(alloc);
-        Ok(OpenedImage { image })
+        Ok(OpenedImage { file, image })
+    }
+
+    /// The file.
+    pub fn file(&self) -> &'a [u8]
+        ensures { result.now ≡ self.now }
+    {
+        self.file
     }
 
     /// What a name exports. If several names have these bytes, the first in the name pointer table counts.
@@ -118,6 +130,16 @@ impl<'a> OpenedImage<'a> {
         ensures { option_map (λ text. text.now) result ≡ (image_of_file 0 self.now).text rva }
     {
         self.image.layout.name_at(rva)
+    }
+
+    /// The file for another base, as `rebase_file` of `pe_write` makes it; the tables are not read again. The error is the first of faults
+    /// 44 to 46, 51 and 52, or [`Refusal::Memory`] if an allocation failed.
+    pub fn rebase(&self, alloc: Global, base: u64) -> Result<Vec<u8>, Refusal>
+        ensures exact { AnswersOrWants (rebase_tests self.now base) (λ bytes. bytes.items ≡ rebased self.now base) result }
+        ensures laid { first_standing (layout_tests 0 self.now) ≡ None }
+    {
+        let layout = &self.image.layout;
+        rebase_image(alloc, self.file, layout, self.image.fixups.as_slice(), base)
     }
 
     /// What is at an RVA: the piece that contains it, and the file offset of the byte if it comes from the file.

@@ -36,7 +36,7 @@ pub struct SectionPlace<'a> {
 fn section_start(layout: &Layout, index: usize) -> u32
     ensures { result ≡ start_at (headers_of layout.now) index }
 {
-    match layout.headers().sections.as_slice().get(index) {
+    match layout.section(index) {
         Some(section) => section.virtual_address,
         None => 0,
     }

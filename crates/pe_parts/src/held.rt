@@ -33,8 +33,7 @@ pub(crate) fn held_piece(layout: &Layout, rva: u32) -> HeldPiece
     ensures ends { result.end ≡ held_end (headers_of layout.now) rva }
     ensures all { (k : ℕ) → result.start ≤ k → k < result.end → held_end (headers_of layout.now) k ≡ result.end }
 {
-    let headers = layout.headers();
-    let header_bytes = headers.size_of_headers;
+    let header_bytes = layout.size_of_headers();
     if rva < header_bytes {
         return HeldPiece {
             start: 0,

@@ -85,16 +85,16 @@ fn whole<'a, A: Allocator>(tables: Tables<'a, A>) -> Option<PackedTables<'a, A>>
 /// are not there; the file must be read then.
 ///
 /// The error is out of memory, where reading the tables takes any; then all memory is freed. ("PE Format": The .edata Section, The .idata Section, The .reloc Section.)
-pub fn read_packed<A: Allocator + Copy>(
+pub fn read_packed<'a, A: Allocator + Copy>(
     alloc: A,
-    packed: &[u8],
-    headers: Headers,
+    packed: &'a [u8],
+    headers: &'a Headers,
     number: u16,
-) -> Result<Option<PackedTables<'_, A>>, AllocError>
+) -> Result<Option<PackedTables<'a, A>>, AllocError>
     ensures contents { IfOk result (λ tables. IfSome tables (λ tables. (file : List ℕ) (h : Headers)
-        → IsPacked file h packed.now headers → AreContentsOf (image_from number h file) tables)) }
-    ensures some { IfOk result (λ tables. is_some tables ≡ can_decide_tables number headers packed.now) }
-    ensures memory { OnErr result ((can_lay_out number headers (length packed.now) ≡ true) × TablesTakeMemory (image_from number headers packed.now)) }
+        → IsPacked file h packed.now headers.now → AreContentsOf (image_from number h file) tables)) }
+    ensures some { IfOk result (λ tables. is_some tables ≡ can_decide_tables number headers.now packed.now) }
+    ensures memory { OnErr result ((can_lay_out number headers.now (length packed.now) ≡ true) × TablesTakeMemory (image_from number headers.now packed.now)) }
 {
     let Some(layout) = Layout::of_parts(View::new(packed), headers, number) else {
         return Ok(None);

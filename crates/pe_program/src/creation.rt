@@ -116,9 +116,8 @@ where
     };
     let mut output = Target::new(rt, target);
     let answer = create_archive(rt.alloc(), &members, &mut Counted::new(&mut output));
-    let error = output.error();
-    let finished = output.finish(matches!(answer, Ok(Outcome::Done)));
-    (answer, error.or(finished.err()))
+    let error = output.finish(matches!(answer, Ok(Outcome::Done)));
+    (answer, error)
 }
 
 /// Reports by which fault of which file there is no archive, and returns the exit status. The line of the fault goes to standard

@@ -335,7 +335,7 @@ static EXPLAINED: [Explained; 72] = [
 ];
 
 /// All findings, by number.
-static FINDINGS_EXPLAINED: [Explained; 68] = [
+static FINDINGS_EXPLAINED: [Explained; 72] = [
     (
         101,
         Some(
@@ -392,6 +392,32 @@ static FINDINGS_EXPLAINED: [Explained; 68] = [
         116,
         Some("The functions must ascend, since a binary search finds that of an address."),
         "an image that was linked by a tool that does not sort the table",
+    ),
+    (
+        117,
+        Some(
+            "The first byte has the version in its bits 0 to 2 and the flags in its bits 3 to 7. Of another version neither codes nor chain are read.",
+        ),
+        "an image that was packed, or one of a later version of the format",
+    ),
+    (
+        118,
+        Some(
+            "A slot has two bytes, and an operation takes one, two or three slots. The codes that come after it are not read.",
+        ),
+        "a damaged table",
+    ),
+    (
+        119,
+        Some(
+            "It is not known how many slots such an operation takes, so the codes that come after it are not read.",
+        ),
+        "a damaged table, or an image of a later version of the format",
+    ),
+    (
+        120,
+        Some("A chain that comes back to unwind information of its own has no end."),
+        "a damaged table, or files made to exhaust a reader",
     ),
     (
         131,

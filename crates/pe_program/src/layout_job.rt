@@ -93,9 +93,7 @@ where
     let mut output = Target::new(rt, target);
     let size = file.size();
     let answer = write_layout(rt.alloc(), most, &mut file, size, &mut output);
-    let error = output.error();
-    let finished = output.finish(matches!(answer, Ok(ImageFile::Written)));
-    match error.or(finished.err()) {
+    match output.finish(matches!(answer, Ok(ImageFile::Written))) {
         Some(error) => refuse_target(rt, names.1, error),
         None => tell_layout(rt, names.0, &mut file, target, answer),
     }

@@ -16,6 +16,7 @@ mod extraction;
 mod file_detail;
 mod file_job;
 mod headed;
+mod image_files;
 mod import_fault;
 mod input;
 mod layout_job;

@@ -1,9 +1,12 @@
-//! The command `map`: reads files, maps them and prints the report.
+//! The commands `map` and `at --map`: read files, map them, and print the report or what is at addresses.
 
+use crate::image_files::{ImageFolder, refuse_folder, write_images};
 use crate::import_fault::{import_of, tell_import_fault};
 use crate::input::{InputFile, name_of, open_file};
-use crate::messages::{STANDARD_OUTPUT, refuse_memory, refuse_path, tell_failure, tell_fault};
-use crate::statuses::OUT_OF_MEMORY;
+use crate::messages::{
+    STANDARD_OUTPUT, refuse_map, refuse_memory, refuse_path, tell_failure, tell_fault,
+};
+use crate::statuses::DONE;
 use crate::texts::{Printed, Text, print_text};
 use crate::word_bytes::bytes_of;
 use pe_tool::{
@@ -26,7 +29,19 @@ const LINE_ROOM: usize = 1 << 8;
 /// bytes were read, which show its kind; they are too few for an image, so that its place in a set has a fault.
 type Content<A> = (Vec<u8, A>, Option<Fault>);
 
-/// Reads a file: as far as it decides the report if its size is known, otherwise to its end.
+/// What is printed of a set.
+#[derive(Clone, Copy)]
+enum Asked<'a> {
+    /// The report, if `is_unbound` is set with the imports that are bound to nothing.
+    Report {
+        window: Option<(u64, u32)>,
+        is_unbound: bool,
+    },
+    /// What is at these addresses.
+    Places(&'a [u64]),
+}
+
+/// Reads a file: as far as it decides the report if its size is given, otherwise to its end.
 fn read_bytes<A: Allocator + Copy>(
     alloc: A,
     file: impl Read + Drop,
@@ -60,8 +75,12 @@ fn size_fault_of(size: Option<u64>) -> Option<Fault> {
     }
 }
 
-/// Reads a file, or reports the failure and returns the exit status.
-fn read_file<R: Files + Input + Eprint + Alloc>(rt: &R, path: &str) -> Result<Content<R::A>, u8>
+/// Reads a file as far as it decides the report, or whole, or reports the failure and returns the exit status.
+fn read_file<R: Files + Input + Eprint + Alloc>(
+    rt: &R,
+    path: &str,
+    is_whole: bool,
+) -> Result<Content<R::A>, u8>
 where
     R::A: Copy,
 {
@@ -76,6 +95,7 @@ where
     let large = size_fault_of(size);
     let answer = match large {
         Some(_) => read_kind(rt.alloc(), &mut file),
+        None if is_whole => read_bytes(rt.alloc(), &mut file, None),
         None => read_bytes(rt.alloc(), &mut file, size),
     };
     match answer {
@@ -87,16 +107,11 @@ where
     }
 }
 
-/// Reports on standard error that memory for `map` ran out, and returns the exit status.
-fn refuse_map(rt: &impl Eprint) -> u8 {
-    tell_failure(rt, b"map", ToolError::Memory, None);
-    OUT_OF_MEMORY
-}
-
 /// Reads files in order, up to the first that fails, and adds to `large` the fault of each that is too large.
 fn read_files<R: Files + Input + Eprint + Alloc>(
     rt: &R,
     files: &[MapFile],
+    is_whole: bool,
     large: &mut Vec<Option<Fault>, R::A>,
 ) -> Result<Vec<Vec<u8, R::A>, R::A>, u8>
 where
@@ -104,7 +119,7 @@ where
 {
     let mut contents = Vec::new(rt.alloc());
     for file in files {
-        let (bytes, fault) = read_file(rt, file.path.as_str())?;
+        let (bytes, fault) = read_file(rt, file.path.as_str(), is_whole)?;
         if contents.push(bytes).is_err() || large.push(fault).is_err() {
             return Err(refuse_map(rt));
         }
@@ -171,21 +186,25 @@ fn large_fault<A: Allocator + Copy>(
     }
 }
 
-/// What to print of a set: the line of a fault, if it is refused because a file is too large, or else its report.
+/// What to print of a set: the line of a fault, if it is refused because a file is too large, or else what is asked for.
 fn text_of<'a, F>(
     set: &'a [SetEntry<'a>],
     policy: Policy,
-    window: Option<(u64, u32)>,
-    is_unbound: bool,
+    asked: Asked<'a>,
     large: Option<Fault>,
 ) -> Text<'a, F> {
-    match large {
-        Some(fault) => Text::Refusal(fault),
-        None => Text::Map {
+    match (large, asked) {
+        (Some(fault), _) => Text::Refusal(fault),
+        (None, Asked::Report { window, is_unbound }) => Text::Map {
             set,
             policy,
             window,
             is_unbound,
+        },
+        (None, Asked::Places(addresses)) => Text::AtMap {
+            set,
+            policy,
+            addresses,
         },
     }
 }
@@ -231,20 +250,19 @@ where
     status(&printed.answer)
 }
 
-/// Maps files and prints the report, if `is_unbound` is set with the imports that are bound to nothing, and returns the exit
-/// status.
+/// Maps files and prints what is asked for, then writes each image to a folder, if there is one, and returns the exit status.
 fn print_map<R: Files + Input + Print + Eprint + Alloc>(
     rt: &R,
     policy: Policy,
-    window: Option<(u64, u32)>,
-    is_unbound: bool,
+    asked: Asked<'_>,
+    folder: Option<ImageFolder<'_>>,
     files: &[MapFile],
 ) -> u8
 where
     R::A: Copy,
 {
     let mut large = Vec::new(rt.alloc());
-    let contents = match read_files(rt, files, &mut large) {
+    let contents = match read_files(rt, files, matches!(asked, Asked::Places(_)), &mut large) {
         Ok(contents) => contents,
         Err(status) => return status,
     };
@@ -257,8 +275,12 @@ where
     let Ok(fault) = large_fault(rt.alloc(), policy, &set, &large) else {
         return refuse_map(rt);
     };
-    let text: Text<'_, R::File> = text_of(&set, policy, window, is_unbound, fault);
-    tell_set(rt, files, &set, print_text(rt, text))
+    let text: Text<'_, R::File> = text_of(&set, policy, asked, fault);
+    let status = tell_set(rt, files, &set, print_text(rt, text));
+    match folder {
+        Some(folder) if status == DONE => write_images(rt, folder, policy, &set, files),
+        _ => status,
+    }
 }
 
 /// Maps files, and returns the exit status.
@@ -271,7 +293,11 @@ pub fn run_map<R: Files + Input + Print + Eprint + Alloc>(
 where
     R::A: Copy,
 {
-    print_map(rt, policy, window, false, files)
+    let asked = Asked::Report {
+        window,
+        is_unbound: false,
+    };
+    print_map(rt, policy, asked, None, files)
 }
 
 /// Maps files and prints the imports that are bound to nothing too, and returns the exit status.
@@ -284,5 +310,44 @@ pub fn run_map_unbound<R: Files + Input + Print + Eprint + Alloc>(
 where
     R::A: Copy,
 {
-    print_map(rt, policy, window, true, files)
+    let asked = Asked::Report {
+        window,
+        is_unbound: true,
+    };
+    print_map(rt, policy, asked, None, files)
+}
+
+/// Maps files and prints what is asked for, then writes each image as it stands in the space to a folder, and returns the exit
+/// status. If a file of the folder cannot be written, as when it is an input, nothing is.
+pub(crate) fn run_map_write<R: Files + Input + Print + Eprint + Alloc>(
+    rt: &R,
+    policy: Policy,
+    window: Option<(u64, u32)>,
+    is_unbound: bool,
+    folder: ImageFolder<'_>,
+    files: &[MapFile],
+) -> u8
+where
+    R::A: Copy,
+{
+    match refuse_folder(rt, folder.path, files) {
+        Some(status) => status,
+        None => {
+            let asked = Asked::Report { window, is_unbound };
+            print_map(rt, policy, asked, Some(folder), files)
+        }
+    }
+}
+
+/// Maps files and prints what is at addresses, and returns the exit status.
+pub(crate) fn run_at_map<R: Files + Input + Print + Eprint + Alloc>(
+    rt: &R,
+    policy: Policy,
+    files: &[MapFile],
+    addresses: &[u64],
+) -> u8
+where
+    R::A: Copy,
+{
+    print_map(rt, policy, Asked::Places(addresses), None, files)
 }

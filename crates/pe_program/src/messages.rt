@@ -47,6 +47,12 @@ pub(crate) fn refuse_memory(rt: &impl Eprint) -> u8 {
     OUT_OF_MEMORY
 }
 
+/// Reports on standard error that memory for `map` ran out, and returns the exit status.
+pub(crate) fn refuse_map(rt: &impl Eprint) -> u8 {
+    tell_failure(rt, b"map", ToolError::Memory, None);
+    OUT_OF_MEMORY
+}
+
 /// A fault in words, the numbers of the file that its rule compares, and the kind of the file if it is the wrong one.
 #[derive(Clone, Copy)]
 struct Told {

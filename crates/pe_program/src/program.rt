@@ -6,8 +6,9 @@ use crate::creation::run_creation;
 use crate::explain::run_explain;
 use crate::extraction::{Part, run_extraction};
 use crate::file_job::{run_file, run_files};
+use crate::image_files::ImageFolder;
 use crate::layout_job::run_layout;
-use crate::map_job::{run_map, run_map_unbound};
+use crate::map_job::{run_at_map, run_map, run_map_unbound, run_map_write};
 use crate::rebase_job::{NewFile, run_rebase};
 use crate::resource_job::run_resource;
 use crate::texts::Engine;
@@ -128,6 +129,13 @@ pub fn run<R: Files + Input + Env + Print + Eprint + AllocGlobal>(rt: &R, is_ter
         ) => run_files(rt, json_engine(beyond), most, &files),
         Ok(Job::Sum { files }) => run_files(rt, Engine::Sum, None, &files),
         Ok(Job::At { file, places }) => run_at(rt, file.as_str(), &places),
+        Ok(
+            Job::AtMap {
+                policy,
+                files,
+                addresses,
+            },
+        ) => run_at_map(rt, policy, &files, &addresses),
         Ok(Job::Resource { file, leaf, is_raw }) => match leaf {
             Some(leaf) => run_resource(rt, file.as_str(), leaf.as_str(), is_raw),
             None => run_file(rt, Engine::Resources, None, file.as_str()),
@@ -165,6 +173,26 @@ pub fn run<R: Files + Input + Env + Print + Eprint + AllocGlobal>(rt: &R, is_ter
                 files,
             },
         ) => run_map_unbound(rt, policy, window, &files),
+        Ok(
+            Job::MapWrite {
+                policy,
+                window,
+                is_unbound,
+                most,
+                folder,
+                files,
+            },
+        ) => run_map_write(
+            rt,
+            policy,
+            window,
+            is_unbound,
+            ImageFolder {
+                path: folder.as_str(),
+                most,
+            },
+            &files,
+        ),
         Ok(
             Job::Layout {
                 most,

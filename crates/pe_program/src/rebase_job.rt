@@ -166,9 +166,7 @@ where
     let mut output = Target::new(rt, target);
     let size = file.size();
     let (answer, len) = rebase_into(rt.alloc(), new, &mut file, size, &mut output, &mut room);
-    let error = output.error();
-    let finished = output.finish(matches!(answer, Ok(Outcome::Done)));
-    match error.or(finished.err()) {
+    match output.finish(matches!(answer, Ok(Outcome::Done))) {
         Some(error) => refuse_target(rt, names.1, error),
         None => {
             let line = room.get(..len).unwrap_or(&room);

@@ -45,6 +45,22 @@ fn open<R: Files + Alloc>(rt: &R, path: &str) -> io::Result<Opened<R::File, R::A
     }
 }
 
+/// Puts a new file in its place if it is whole, or else removes it.
+fn close<R: Files + Alloc>(
+    rt: &R,
+    opened: Opened<R::File, R::A>,
+    is_whole: bool,
+) -> io::Result<()> {
+    match opened {
+        Opened::Beside(draft) if is_whole => draft.publish(rt),
+        Opened::Beside(draft) => {
+            draft.discard(rt);
+            Ok(())
+        }
+        _ => Ok(()),
+    }
+}
+
 impl<'a, R: Files + Print + Alloc> Target<'a, R> {
     /// The output at this path, which is not opened yet.
     pub fn new(rt: &'a R, path: &'a str) -> Target<'a, R> {
@@ -54,11 +70,6 @@ impl<'a, R: Files + Print + Alloc> Target<'a, R> {
             opened: Opened::Nothing,
             error: None,
         }
-    }
-
-    /// The system's error of the call that failed.
-    pub fn error(&self) -> Option<Error> {
-        self.error
     }
 
     /// Writes bytes to what was opened.
@@ -83,17 +94,17 @@ impl<'a, R: Files + Print + Alloc> Target<'a, R> {
         self.write_opened(bytes)
     }
 
-    /// Puts the new file in its place; if that fails, or `is_whole` is false, a file that is in place is as it was.
-    pub fn finish(self, is_whole: bool) -> io::Result<()> {
-        let Target { rt, opened, .. } = self;
-        match opened {
-            Opened::Beside(draft) if is_whole => draft.publish(rt),
-            Opened::Beside(draft) => {
-                draft.discard(rt);
-                Ok(())
-            }
-            _ => Ok(()),
-        }
+    /// Puts the new file in its place; if that fails, or `is_whole` is false, a file that is in place is as it was. The error is that
+    /// of the first call that failed.
+    pub fn finish(self, is_whole: bool) -> Option<Error> {
+        let Target {
+            rt,
+            opened,
+            error,
+            ..
+        } = self;
+        let closed = close(rt, opened, is_whole);
+        error.or(closed.err())
     }
 }
 

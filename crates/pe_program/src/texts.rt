@@ -7,7 +7,7 @@ use crate::output::Output;
 use pe_tool::{
     Beyond, Counted, Detail, FileKind, Outcome, Page, PartSource, Placed, Policy, SetEntry,
     ShowOptions, Sink, Source, Spot, ToolError, ViewFile, archive_json, archive_json_text,
-    archive_text, at_each_sized, at_each_text, check_parts, check_sized, check_text,
+    archive_text, at_each_sized, at_each_text, at_map, check_parts, check_sized, check_text,
     dump_object_sized, dump_parts, dump_sized, dump_text, fault_detail, file_kind, json_parts,
     json_sized, map_report, map_report_unbound, object_text, print_line, read_up_to, read_whole,
     resource_list_sized, resource_list_text, show_archive, show_archive_text, show_page_sized,
@@ -70,6 +70,12 @@ pub(crate) enum Text<'a, F> {
         policy: Policy,
         window: Option<(u64, u32)>,
         is_unbound: bool,
+    },
+    /// What is at addresses of the address space of a set.
+    AtMap {
+        set: &'a [SetEntry<'a>],
+        policy: Policy,
+        addresses: &'a [u64],
     },
     /// The line of the fault by which `map` refuses a set of files.
     Refusal(Fault),
@@ -515,6 +521,14 @@ fn write_text<A: Allocator + Copy>(
                 map_report(alloc, set, policy, window, &mut writer)
             };
             (done, None)
+        }
+        Text::AtMap {
+            set,
+            policy,
+            addresses,
+        } => {
+            let mut writer = Counted::new(writer);
+            (at_map(alloc, set, policy, addresses, &mut writer), None)
         }
         Text::Refusal(fault) => (write_refusal(&mut Counted::new(writer), fault), None),
     }

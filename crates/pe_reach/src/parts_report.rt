@@ -81,7 +81,7 @@ pub fn run_parts<T: TablesReport, A: Allocator + Copy, R: PartSource, W: Sink>(
         packed,
         bytes,
     } = parts;
-    match read_packed(alloc, &bytes, packed, 0) {
+    match read_packed(alloc, &bytes, &packed, 0) {
         Ok(Some(tables)) => match write_tables(report, writer, &headers, &tables) {
             Ok(outcome) => Ok(Some(outcome)),
             Err(error) => Err(error),

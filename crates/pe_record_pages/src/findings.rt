@@ -57,7 +57,7 @@ pub fn table_findings<A: Allocator + Copy>(
     all.retain(|finding| !is_unread(layout, file, finding));
     all.extend_from_slice(delay_findings(alloc, layout)?.as_slice())?;
     if symbols {
-        let found = symbol_findings(alloc, layout.image(), bytes, layout.headers())?;
+        let found = symbol_findings(alloc, layout.image(), bytes, &layout.headers())?;
         all.extend_from_slice(found.as_slice())?;
     }
     Ok(all)

@@ -3,13 +3,15 @@
 ghost use Rattle.pe_text.specs.TextWriter.{IsReady};
 ghost use Rattle.pe_page.specs.Page.{AddsSome};
 
+use crate::arm_unwind::write_arm_unwind;
 use crate::shown_image::ShownImage;
+use crate::unwind::{rva_width, unwind_cells, write_unwind};
 use pe_layout::Layout;
 use pe_page::Cell::{self, Plain};
 use pe_page::{NOTHING, SectionNames, plural, write_cells, write_heading};
 use pe_records::{ArmFunction, ExceptionTable, Function, Records, exception_table};
 use pe_text::Part::{Hex, Text};
-use pe_text::{ShowOptions, Sink, TextWriter, hex_width};
+use pe_text::{ShowOptions, Sink, TextWriter};
 
 /// The number of functions of an exception table; none if its machine has a table of another form.
 fn count_of(table: &ExceptionTable) -> Option<u32> {
@@ -37,14 +39,14 @@ pub(crate) fn write_function_count<W: Sink>(text: &mut TextWriter<W>, layout: &L
     }
 }
 
-/// Whether function `index` contains an RVA, and then where it begins and ends.
-fn around(functions: &Records<Function>, index: u32, rva: u32) -> Option<(u32, u32)> {
+/// Function `index`, if it contains an RVA.
+fn around(functions: &Records<Function>, index: u32, rva: u32) -> Option<Function> {
     let function = functions.get(index)?;
-    (function.begin <= rva && rva < function.end).then_some((function.begin, function.end))
+    (function.begin <= rva && rva < function.end).then_some(function)
 }
 
-/// Where the first function begins and ends that contains an RVA.
-fn find_around(functions: &Records<Function>, rva: u32) -> Option<(u32, u32)> {
+/// The first function that contains an RVA.
+fn find_around(functions: &Records<Function>, rva: u32) -> Option<Function> {
     for index in 0..functions.len() {
         let found = around(functions, index, rva);
         if found.is_some() {
@@ -54,43 +56,41 @@ fn find_around(functions: &Records<Function>, rva: u32) -> Option<(u32, u32)> {
     None
 }
 
-/// The function of an AMD64 image that contains an RVA, like `  function 0x1010 to 0x11ff`. That of another machine has no end in the
-/// exception table.
-pub fn function_cells(layout: &Layout, rva: u32) -> [Cell<'static>; 4] {
+/// The function of an AMD64 image that contains an RVA, like `  function 0x1010 to 0x11ff`, with its frame register and its handler if it
+/// has them, like `  frame RBP+0x20  handler 0x1350`. That of another machine has no end in the exception table.
+pub fn function_cells(layout: &Layout, rva: u32) -> [Cell<'static>; 10] {
     let found = match exception_table(layout) {
         ExceptionTable::Amd64(functions) => find_around(&functions, rva),
         _ => None,
     };
-    match found {
-        Some((begin, end)) => [
-            Plain(Text(b"  function 0x")),
-            Plain(Hex(u64::from(begin), 1)),
-            Plain(Text(b" to 0x")),
-            Plain(Hex(u64::from(end), 1)),
-        ],
-        None => [NOTHING; 4],
-    }
+    let Some(function) = found else {
+        return [NOTHING; 10];
+    };
+    let [frame, register, plus, offset, words, handler] = unwind_cells(layout, &function);
+    [
+        Plain(Text(b"  function 0x")),
+        Plain(Hex(u64::from(function.begin), 1)),
+        Plain(Text(b" to 0x")),
+        Plain(Hex(u64::from(function.end), 1)),
+        frame,
+        register,
+        plus,
+        offset,
+        words,
+        handler,
+    ]
 }
 
-/// How many digits an RVA of an image has in the rows of functions.
-fn rva_width(layout: &Layout) -> u8 {
-    hex_width(u64::from(layout.size())).max(6)
-}
-
-/// Adds the row of function `index` of an AMD64 image: where it begins and ends, its unwind information, and its place.
-fn write_function<W: Sink>(
+/// Adds the row of a function of an AMD64 image: where it begins and ends, its unwind information, and its place.
+fn write_row<W: Sink>(
     text: &mut TextWriter<W>,
     layout: &Layout,
     names: &SectionNames,
-    functions: &Records<Function>,
-    index: u32,
+    function: &Function,
 )
     requires { IsReady W.failures text.old }
     ensures { AddsSome W.taken W.failures text.old text.new }
 {
-    let Some(function) = functions.get(index) else {
-        return;
-    };
     let width = rva_width(layout);
     write_cells(
         text,
@@ -108,12 +108,29 @@ fn write_function<W: Sink>(
     );
 }
 
-/// Adds the row of function `index` of an ARM64 or ARMNT image: where it begins, its unwind record, and its place.
-fn write_arm_function<W: Sink>(
+/// Adds the rows of the unwind information of a function of an AMD64 image, if the options select them.
+fn write_selected<W: Sink>(
     text: &mut TextWriter<W>,
+    options: &ShowOptions,
     layout: &Layout,
     names: &SectionNames,
-    functions: &Records<ArmFunction>,
+    function: &Function,
+)
+    requires { IsReady W.failures text.old }
+    ensures { AddsSome W.taken W.failures text.old text.new }
+{
+    if options.unwind {
+        write_unwind(text, layout, names, function);
+    }
+}
+
+/// Adds the rows of function `index` of an AMD64 image.
+fn write_function<W: Sink>(
+    text: &mut TextWriter<W>,
+    options: &ShowOptions,
+    layout: &Layout,
+    names: &SectionNames,
+    functions: &Records<Function>,
     index: u32,
 )
     requires { IsReady W.failures text.old }
@@ -122,6 +139,20 @@ fn write_arm_function<W: Sink>(
     let Some(function) = functions.get(index) else {
         return;
     };
+    write_row(text, layout, names, &function);
+    write_selected(text, options, layout, names, &function);
+}
+
+/// Adds the row of a function of an ARM64 or ARMNT image: where it begins, its unwind record, and its place.
+fn write_arm_row<W: Sink>(
+    text: &mut TextWriter<W>,
+    layout: &Layout,
+    names: &SectionNames,
+    function: &ArmFunction,
+)
+    requires { IsReady W.failures text.old }
+    ensures { AddsSome W.taken W.failures text.old text.new }
+{
     let words: &[u8] = if function.unwind % 4 == 0 {
         b"  record 0x"
     } else {
@@ -141,9 +172,45 @@ fn write_arm_function<W: Sink>(
     );
 }
 
-/// Adds a row for each function of an AMD64 image.
+/// Adds the rows of the unwind record of a function of an ARM64 image, if the options select them.
+fn write_selected_arm<W: Sink>(
+    text: &mut TextWriter<W>,
+    options: &ShowOptions,
+    layout: &Layout,
+    names: &SectionNames,
+    function: &ArmFunction,
+)
+    requires { IsReady W.failures text.old }
+    ensures { AddsSome W.taken W.failures text.old text.new }
+{
+    if options.unwind {
+        write_arm_unwind(text, layout, names, function);
+    }
+}
+
+/// Adds the rows of function `index` of an ARM64 or ARMNT image.
+fn write_arm_function<W: Sink>(
+    text: &mut TextWriter<W>,
+    options: &ShowOptions,
+    layout: &Layout,
+    names: &SectionNames,
+    functions: &Records<ArmFunction>,
+    index: u32,
+)
+    requires { IsReady W.failures text.old }
+    ensures { AddsSome W.taken W.failures text.old text.new }
+{
+    let Some(function) = functions.get(index) else {
+        return;
+    };
+    write_arm_row(text, layout, names, &function);
+    write_selected_arm(text, options, layout, names, &function);
+}
+
+/// Adds the rows of each function of an AMD64 image.
 fn write_each<W: Sink>(
     text: &mut TextWriter<W>,
+    options: &ShowOptions,
     layout: &Layout,
     names: &SectionNames,
     functions: &Records<Function>,
@@ -153,13 +220,14 @@ fn write_each<W: Sink>(
 {
     text.text(b"  begin     end       unwind    place\n");
     for index in 0..functions.len() {
-        write_function(text, layout, names, functions, index);
+        write_function(text, options, layout, names, functions, index);
     }
 }
 
-/// Adds a row for each function of an ARM64 or ARMNT image.
+/// Adds the rows of each function of an ARM64 or ARMNT image.
 fn write_each_arm<W: Sink>(
     text: &mut TextWriter<W>,
+    options: &ShowOptions,
     layout: &Layout,
     names: &SectionNames,
     functions: &Records<ArmFunction>,
@@ -169,13 +237,14 @@ fn write_each_arm<W: Sink>(
 {
     text.text(b"  begin     unwind             place\n");
     for index in 0..functions.len() {
-        write_arm_function(text, layout, names, functions, index);
+        write_arm_function(text, options, layout, names, functions, index);
     }
 }
 
 /// Adds the rows of a table.
 fn write_table<W: Sink>(
     text: &mut TextWriter<W>,
+    options: &ShowOptions,
     layout: &Layout,
     names: &SectionNames,
     table: &ExceptionTable,
@@ -184,13 +253,34 @@ fn write_table<W: Sink>(
     ensures { AddsSome W.taken W.failures text.old text.new }
 {
     match table {
-        ExceptionTable::Amd64(functions) => write_each(text, layout, names, functions),
-        ExceptionTable::Arm(functions) => write_each_arm(text, layout, names, functions),
+        ExceptionTable::Amd64(functions) => write_each(text, options, layout, names, functions),
+        ExceptionTable::Arm(functions) => write_each_arm(text, options, layout, names, functions),
         ExceptionTable::Other => {}
     }
 }
 
-/// Adds a row for each function of the exception table, if the options select them.
+/// Adds the heading and the rows of a table of so many functions.
+fn write_all<W: Sink>(
+    text: &mut TextWriter<W>,
+    options: &ShowOptions,
+    layout: &Layout,
+    names: &SectionNames,
+    table: &ExceptionTable,
+    count: u32,
+)
+    requires { IsReady W.failures text.old }
+    ensures { AddsSome W.taken W.failures text.old text.new }
+{
+    write_heading(text, options, b"Functions", count as usize);
+    write_table(text, options, layout, names, table);
+}
+
+/// Whether the options select the rows of functions, or of their unwind information.
+fn is_selected(options: &ShowOptions) -> bool {
+    options.functions || options.unwind
+}
+
+/// Adds the rows of each function of the exception table, if the options select them or those of unwind information.
 pub fn write_functions<W: Sink>(
     text: &mut TextWriter<W>,
     options: &ShowOptions,
@@ -202,9 +292,7 @@ pub fn write_functions<W: Sink>(
 {
     let table = exception_table(image.layout);
     let count = count_of(&table).unwrap_or(0);
-    if !options.functions || count == 0 {
-        return;
+    if count > 0 && is_selected(options) {
+        write_all(text, options, image.layout, names, &table, count);
     }
-    write_heading(text, options, b"Functions", count as usize);
-    write_table(text, image.layout, names, &table);
 }

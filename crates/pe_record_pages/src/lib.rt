@@ -4,6 +4,7 @@
 //! Contracts say that some text is added, not which.
 #![tactic(auto)]
 
+mod arm_unwind;
 mod certificates;
 mod debug;
 mod debug_data;
@@ -17,6 +18,7 @@ mod shown_image;
 mod summaries;
 mod tls;
 mod trust;
+mod unwind;
 
 pub use debug::{image_pdb, is_reproducible, write_debug};
 pub use findings::{table_findings, write_findings};

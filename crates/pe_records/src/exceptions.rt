@@ -29,7 +29,7 @@ pub enum ExceptionTable<'a> {
 pub fn exception_table<'a>(layout: &Layout<'a>) -> ExceptionTable<'a>
     ensures { Holds (headers_of layout.now).machine (image_of layout.now) result }
 {
-    match layout.headers().machine {
+    match layout.machine() {
         machine::AMD64 => ExceptionTable::Amd64(Records::of(layout)),
         machine::ARM64 | machine::ARMNT => ExceptionTable::Arm(Records::of(layout)),
         _ => ExceptionTable::Other,
@@ -44,7 +44,7 @@ pub(crate) fn find_exceptions<A: Allocator>(
 ) -> Result<(), AllocError>
     ensures { Adds (exception_tests (headers_of layout.now).machine (image_of layout.now) (bytes_of file.entry)) findings.old.items findings.new.items result }
 {
-    match layout.headers().machine {
+    match layout.machine() {
         machine::AMD64 => find_table::<Function, _>(findings, layout, file),
         machine::ARM64 | machine::ARMNT => find_table::<ArmFunction, _>(findings, layout, file),
         _ => Ok(()),

@@ -1,5 +1,5 @@
 -- What the calls of an opened image return: the same as those over the bytes of its file, or 6 if there is no image.
-use Rattle.std.specs.Prelude.{◌≡◌, ◌<◌, ◌≤◌, ◌+◌, ◌⊎◌, ℕ, List, [], Option, None, Some}
+use Rattle.std.specs.Prelude.{◌≡◌, ◌≢◌, length, ◌<◌, ◌≤◌, ◌+◌, ◌⊎◌, ℕ, List, [], Option, None, Some}
 use Rattle.pe_head.specs.Head.{head_of}
 use Rattle.pe_layout.specs.Image.{image_of_file, bytes_at}
 use Rattle.pe_layout.specs.Locating.{located, file_offset}
@@ -8,6 +8,11 @@ use Rattle.pe_tables.specs.Key.{Key, Target}
 use Rattle.pe_tables.specs.Imports.{imports_of, Import}
 use Rattle.pe_tables.specs.Fixups.{fixups_of}
 use Rattle.pe_tables.specs.declared.fixups.Fixup.{Fixup}
+use Rattle.pe_write.specs.Rebase.{rebased}
+use Rattle.pe_write.specs.RebaseFaults.{rebase_tests}
+use Rattle.pe_records_c.specs.Faults.{IsAccepted, IsAnswered}
+use Rattle.pe_records_c.specs.Wants.{IsLaidOut}
+use Rattle.pe_records_c.specs.declared.fault.FaultRecord.{FaultRecord}
 use Rattle.pe_records_c.specs.ExportRows.{TellsTarget, named}
 use Rattle.pe_records_c.specs.ImportRows.{import_of_slot, TellsImport}
 use Rattle.pe_records_c.specs.declared.export.TargetRecord.{TargetRecord}
@@ -50,6 +55,21 @@ IsRead file rva n old new status =
 abbrev pub IsBytesOf : Option (List ℕ) → ℕ → ℕ → List ℕ → List ℕ → ℕ → Type 0
 IsBytesOf None rva n old new status = (status ≡ 6) × (new ≡ old)
 IsBytesOf (Some file) rva n old new status = IsRead file rva n old new status
+
+-- the file for a base, in a buffer of its length: status 0 and its bytes, 1 with the first fault, 2 if memory ran out, or 5 for a buffer
+-- of another length
+pub record IsRebase (file : List ℕ) (base : ℕ) (old new : List ℕ) (before after : FaultRecord) (status : ℕ) : Type 0 where
+  pub argument : status ≡ 5 → length old ≢ length file
+  pub same_length : status ≢ 5 → length old ≡ length file
+  pub faults : status ≢ 5 → IsAnswered (IsLaidOut file) (rebase_tests file base) before after status
+  pub accepted : status ≢ 5 → IsAccepted status → status ≡ 0
+  pub done : status ≡ 0 → new ≡ rebased file base
+  pub kept : status ≢ 0 → new ≡ old
+  pub fault_kept : status ≡ 5 → after ≡ before
+
+abbrev pub IsRebaseOf : Option (List ℕ) → ℕ → List ℕ → List ℕ → FaultRecord → FaultRecord → ℕ → Type 0
+IsRebaseOf None base old new before after status = (status ≡ 6) × (new ≡ old) × (after ≡ before)
+IsRebaseOf (Some file) base old new before after status = IsRebase file base old new before after status
 
 -- a string: status 0 and its bytes, or 3 if there is none
 abbrev pub IsText : Option (List ℕ) → TextRecord → TextRecord → ℕ → Type 0

@@ -87,7 +87,7 @@ pub struct HeadersRecord {
     pub pe_offset: u32,
     /// When the image was made, in seconds since 1970, as written.
     pub time_date_stamp: u32,
-    /// The file offset of the symbol table, which is not read.
+    /// The file offset of the symbol table, or 0 if there is none.
     pub pointer_to_symbol_table: u32,
     /// How many records the symbol table has.
     pub number_of_symbols: u32,

@@ -22,6 +22,7 @@ pub mod name;
 pub mod object;
 pub mod object_headers;
 pub mod opened;
+pub mod opened_rebase;
 pub mod reading;
 pub mod rebase;
 pub mod row;

@@ -95,7 +95,7 @@ fn record_and_symbol_findings(
         ⊎ (standing (image_symbol_tests (image_of layout.now).number (bytes_of file.entry) (headers_of layout.now)) ≢ [])) }
 {
     let records = findings(alloc, layout, file)?;
-    let symbols = symbol_findings(alloc, layout.image(), file, layout.headers())?;
+    let symbols = symbol_findings(alloc, layout.image(), file, &layout.headers())?;
     joined(records, symbols)
 }
 

@@ -59,7 +59,7 @@ impl<'a> Placed for Layout<'a> {
     }
 
     fn magic(&self) -> Magic {
-        self.headers().magic
+        Layout::magic(self)
     }
 
     fn image_base(&self) -> u64 {

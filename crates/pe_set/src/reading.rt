@@ -45,7 +45,7 @@ impl<'a, A: Allocator + Copy> Placed for Module<'a, A> {
 
     #[tactic(auto, unfolding(crate::specs::SetView::module_view))]
     fn magic(&self) -> Magic {
-        self.image.layout.headers().magic
+        self.image.layout.magic()
     }
 
     #[tactic(auto, unfolding(crate::specs::SetView::module_view))]

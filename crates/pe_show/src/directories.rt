@@ -68,7 +68,8 @@ fn widths_of(layout: &Layout, names: &SectionNames) -> Widths {
         size: 5,
         section: 12,
     };
-    for (index, directory) in layout.headers().directories.as_slice().iter().enumerate() {
+    let headers = layout.headers();
+    for (index, directory) in headers.directories.as_slice().iter().enumerate() {
         if is_present(directory) {
             widths.count = widths.count.saturating_add(1);
             widths.name = widths.name.max(name_of(index).len());
@@ -388,10 +389,10 @@ pub(crate) fn write_directories<A: Allocator + Copy, W: Sink>(
     requires { IsReady W.failures text.old }
     ensures { AddsSome W.taken W.failures text.old text.new }
 {
-    let directories = image.layout.headers().directories.as_slice();
+    let headers = image.layout.headers();
     let widths = widths_of(image.layout, names);
     write_heading(text, page.options, b"Tables", widths.count);
-    for (index, directory) in directories.iter().enumerate() {
+    for (index, directory) in headers.directories.as_slice().iter().enumerate() {
         let section = section_of(image.layout, names, index, directory);
         write_directory(
             text, page, image, &widths, index, directory, section, tables,

@@ -127,26 +127,26 @@ fn write_image<A: Allocator + Copy, W: Sink>(
         trust,
     } = *image;
     let headers = layout.headers();
-    let names = SectionNames::new(file, headers);
+    let names = SectionNames::new(file, &headers);
     let entry = names.place(layout, headers.address_of_entry_point);
-    write_title(text, page, outcome, image_kind(headers), file.len());
-    write_headers(text, page, headers, Some(entry), is_reproducible(layout));
-    write_others(text, headers, file.len(), page.options.symbols);
+    write_title(text, page, outcome, image_kind(&headers), file.len());
+    write_headers(text, page, &headers, Some(entry), is_reproducible(layout));
+    write_others(text, &headers, file.len(), page.options.symbols);
     write_identity(
         text,
         page.options,
         resources.version,
         image_pdb(layout, file),
     );
-    write_sections(text, page, headers, &names);
+    write_sections(text, page, &headers, &names);
     write_directories(text, page, image, &names, tables);
     write_exports(text, page.options, layout, &names, tables, names_by_ordinal);
     write_imports(text, page.options, tables);
     write_delayed(text, page.options, delayed);
     write_fixups(text, page.options, tables);
     write_beyond(text, page.options, image, &names);
-    write_image_symbols(alloc, text, page.options, file, headers, &names);
-    write_trust(text, page.options, file, headers, imports_read(tables));
+    write_image_symbols(alloc, text, page.options, file, &headers, &names);
+    write_trust(text, page.options, file, &headers, imports_read(tables));
     write_findings(text, page.options, findings, trust);
     write_refusal(text, page.options, outcome, file);
 }
@@ -172,7 +172,7 @@ pub(crate) fn show_image<A: Allocator + Copy, W: Sink>(
             let delayed = read_delay_imports(alloc, &layout)?;
             let mut findings = table_findings(alloc, &layout, file, page.options.symbols)?;
             let resources = ImageResources::read(alloc, &layout, &mut findings)?;
-            let trust = trust_findings(page.options, file, layout.headers());
+            let trust = trust_findings(page.options, file, &layout.headers());
             let image = ShownImage {
                 layout: &layout,
                 file,

@@ -67,7 +67,7 @@ impl<'a, A: Allocator + Copy> Placed for FileImage<'a, A> {
     }
 
     fn magic(&self) -> Magic {
-        self.layout.headers().magic
+        self.layout.magic()
     }
 
     fn image_base(&self) -> u64 {

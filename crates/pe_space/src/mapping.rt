@@ -24,7 +24,7 @@ fn place<A: Allocator + Copy>(alloc: A, own: Module<A>) -> Result<MappedImage<A>
     Ok(MappedImage::new(
         own.base,
         layout.size(),
-        layout.headers().magic,
+        layout.magic(),
         layout.image_base(),
         layout.is_stripped(),
         own.image.fixups,

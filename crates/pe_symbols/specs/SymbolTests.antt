@@ -3,11 +3,11 @@ use Rattle.std.specs.Prelude.{ℕ, ◌+◌, ◌*◌, ◌==◌, ◌&&◌, Bool, f
 use Rattle.std.specs.List.{flat_map}
 use Rattle.pe_view.specs.declared.fault.Place.TheVariants.{File}
 use Rattle.pe_view.specs.Faults.{Test}
-use Rattle.pe_view.specs.Number.{byte_of}
 use Rattle.pe_view.specs.Standing.{tests_at}
 use Rattle.pe_head.specs.declared.headers.Headers.{Headers}
+use Rattle.coff_read.specs.Field.{field}
 use Rattle.coff_read.specs.ImageNames.{strings_start, image_strings}
-use Rattle.coff_read.specs.ImageSymbols.{image_symbols}
+use Rattle.coff_read.specs.ImageSymbols.{image_symbols, records_held}
 use Rattle.coff_read.specs.Records.{Symbol}
 use Rattle.coff_read.specs.declared.symbol.SymbolSection.{SymbolSection}
 use Rattle.coff_read.specs.declared.symbol.SymbolSection.TheVariants as belongs
@@ -23,11 +23,11 @@ is_stray sections (belongs.Section number) = nat_lt sections number
 abbrev pub record_offset : Headers → ℕ → ℕ
 record_offset h k = h.pointer_to_symbol_table + 18 * k
 
--- of the symbol whose record has an index: its section, and that it has fewer auxiliary records than it counts
+-- of the symbol whose record has an index: its section, and that it counts more auxiliary records than are behind its own
 abbrev pub symbol_tests : ℕ → List ℕ → Headers → ℕ × Symbol → List Test
 symbol_tests image file h s =
     tests_at image (File (record_offset h s.0))
-    ((263, is_stray h.number_of_sections s.1.section) ∷ (264, nat_lt (length s.1.aux) (18 * byte_of file (record_offset h s.0 + 17))) ∷ [])
+    ((263, is_stray h.number_of_sections s.1.section) ∷ (264, nat_lt (records_held file h) (s.0 + 1 + field file (record_offset h s.0) 17 1)) ∷ [])
 
 -- the file does not hold all records
 abbrev pub is_cut : List ℕ → Headers → Bool

@@ -1,16 +1,16 @@
 //! `symbol_findings`: the findings of an image's symbol table.
 
-ghost use Rattle.std.specs.Prelude.{◌≡◌, ◌≢◌, ◌+◌, [], IfOk, OnErr, length, nat_lt};
+ghost use Rattle.std.specs.Prelude.{◌≡◌, ◌≢◌, ◌+◌, ◌-◌, ◌*◌, ◌^◌, ◌<◌, ◌≤◌, [], IfOk, OnErr, length, nat_lt};
 ghost use Rattle.std.specs.List.{flat_map};
-ghost use Rattle.coff_read.specs.ImageSymbols.{image_symbols};
-ghost use Rattle.coff_read.specs.ImageSymbolsLeft.{image_symbols_left};
-ghost use Rattle.coff_read.specs.ObjectView.{symbol_view};
-ghost use Rattle.pe_view.specs.Number.{byte_of};
+ghost use Rattle.coff_read.specs.Field.{field};
+ghost use Rattle.coff_read.specs.ImageSymbols.{image_symbols, records_held};
+ghost use Rattle.coff_read.specs.Reading.{section_of_number};
+ghost use Rattle.coff_read.specs.Records.{Symbol};
 ghost use Rattle.pe_view.specs.Standing.{Adds, standing};
-ghost use Rattle.pe_view.specs.View.{bytes_of};
+ghost use Rattle.pe_view.specs.View.{bytes_of, size_of};
 ghost use Rattle.pe_symbols.specs.SymbolTests.{is_stray, symbol_tests, table_tests, image_symbol_tests};
 
-use coff_read::{ImageStrings, ImageSymbols, Symbol, SymbolSection};
+use coff_read::{ImageStrings, SymbolSection, records_held, section_of_number};
 use pe_head::Headers;
 use pe_records::finding::add;
 use pe_view::{Fault, Place, View};
@@ -29,55 +29,73 @@ fn is_stray(sections: u16, section: SymbolSection) -> bool
     }
 }
 
-/// The byte at a file offset; 0 if the file ends before it.
-fn byte_at(file: View, at: u64) -> u8
-    ensures { result ≡ byte_of (bytes_of file.entry) at }
+/// The section number of the symbol whose record is at a file offset.
+#[tactic(auto, unfolding(coff_read::specs::Field::field))]
+fn section_at(file: View, at: u64) -> u16
+    requires { at + 18 ≤ size_of file }
+    ensures { result ≡ field (bytes_of file.entry) at 12 2 }
 {
-    match file.slice(at, 1) {
-        Some(bytes) => bytes[0],
-        None => 0,
-    }
+    file.u16_at(at + 12).unwrap()
 }
 
-/// Adds the findings of a symbol, whose record has this index.
+/// How many auxiliary records the symbol counts whose record is at a file offset.
+#[tactic(auto, unfolding(coff_read::specs::Field::field))]
+fn aux_counted_at(file: View, at: u64) -> u8
+    requires { at + 18 ≤ size_of file }
+    ensures { result ≡ field (bytes_of file.entry) at 17 1 }
+{
+    file.slice(at + 17, 1).unwrap()[0]
+}
+
+/// Adds the findings of the symbol whose record has this index and counts so many auxiliary records, where the file holds `held` records.
 fn find_symbol<A: Allocator>(
     findings: &mut Vec<Fault, A>,
     image: u16,
     file: View,
     headers: &Headers,
-    index: u32,
-    symbol: &Symbol,
+    held: u64,
+    index: u64,
+    counted: u8,
 ) -> Result<(), AllocError>
-    ensures { Adds (symbol_tests image (bytes_of file.entry) headers.now (index, symbol_view symbol.now)) findings.old.items findings.new.items result }
+    requires held { held ≡ records_held (bytes_of file) headers.now }
+    requires small { held < 2 ^ 32 }
+    requires within { index < held }
+    requires inside { headers.now.pointer_to_symbol_table + 18 * index + 18 ≤ size_of file }
+    requires counted { counted ≡ field (bytes_of file) (headers.now.pointer_to_symbol_table + 18 * index) 17 1 }
+    ensures { (symbol : Symbol) → symbol.section ≡ section_of_number (field (bytes_of file.entry) (headers.now.pointer_to_symbol_table + 18 * index) 12 2)
+        → Adds (symbol_tests image (bytes_of file.entry) headers.now (index, symbol)) findings.old.items findings.new.items result }
 {
-    let at = u64::from(headers.pointer_to_symbol_table) + RECORD_LEN * u64::from(index);
-    let counted = u64::from(byte_at(file, at + 17));
+    let at = u64::from(headers.pointer_to_symbol_table) + RECORD_LEN * index;
+    let section = section_of_number(section_at(file, at));
     let rules = [
-        (263, is_stray(headers.number_of_sections, symbol.section)),
-        (264, (symbol.aux.len() as u64) < RECORD_LEN * counted),
+        (263, is_stray(headers.number_of_sections, section)),
+        (264, held < index + 1 + u64::from(counted)),
     ];
     add(findings, image, Place::File(at), &rules)
 }
 
-/// Adds the findings of each symbol.
-fn find_symbols<A: Allocator + Copy>(
+/// Adds the findings of each symbol. Names are not read.
+fn find_symbols<A: Allocator>(
     findings: &mut Vec<Fault, A>,
     image: u16,
     file: View,
     headers: &Headers,
-    mut symbols: ImageSymbols<A>,
 ) -> Result<(), AllocError>
-    ensures { Adds (flat_map (symbol_tests image (bytes_of file.entry) headers.now) (image_symbols_left symbols.entry)) findings.old.items findings.new.items result }
+    ensures { Adds (flat_map (symbol_tests image (bytes_of file.entry) headers.now) (image_symbols (bytes_of file.entry) headers.now)) findings.old.items findings.new.items result }
 {
-    while let Some((index, symbol)) = symbols.next() {
-        find_symbol(findings, image, file, headers, index, &symbol)?;
+    let held = records_held(file, headers);
+    let mut index = 0;
+    while index < held {
+        let at = u64::from(headers.pointer_to_symbol_table) + RECORD_LEN * index;
+        let counted = aux_counted_at(file, at);
+        find_symbol(findings, image, file, headers, held, index, counted)?;
+        index += 1 + u64::from(counted).min(held - index - 1);
     }
     Ok(())
 }
 
 /// Adds the findings of an image's symbol table.
-fn find_table<A: Allocator + Copy>(
-    alloc: A,
+fn find_table<A: Allocator>(
     findings: &mut Vec<Fault, A>,
     image: u16,
     file: View,
@@ -91,21 +109,14 @@ fn find_table<A: Allocator + Copy>(
     add(findings, image, Place::File(start), &[(261, is_cut)])?;
     let strays = !is_cut && ImageStrings::new(file, headers).is_none();
     add(findings, image, Place::File(end), &[(262, strays)])?;
-    find_symbols(
-        findings,
-        image,
-        file,
-        headers,
-        ImageSymbols::new(alloc, file, headers),
-    )
+    find_symbols(findings, image, file, headers)
 }
 
 /// The findings 261 to 264 of an image with this number, whose file has these headers: of its symbol table, of its string table, and
 /// then of each symbol whose record the file holds, in table order. Without a symbol table there are none.
 ///
-/// Memory is taken to remember where strings end; without it, strings are searched again. The error is that no memory is left for a
-/// finding. It never comes if there is none.
-pub fn symbol_findings<A: Allocator + Copy>(
+/// The error is that no memory is left for a finding. It never comes if there is none.
+pub fn symbol_findings<A: Allocator>(
     alloc: A,
     image: u16,
     file: View,
@@ -116,7 +127,7 @@ pub fn symbol_findings<A: Allocator + Copy>(
 {
     let mut findings = Vec::new(alloc);
     if headers.pointer_to_symbol_table != 0 {
-        find_table(alloc, &mut findings, image, file, headers)?;
+        find_table(&mut findings, image, file, headers)?;
     }
     Ok(findings)
 }

@@ -311,7 +311,7 @@ static RULES: [(u16, &str, &str); 72] = [
 ];
 
 /// The words of each finding, as [`RULES`] has those of faults.
-static FINDING_RULES: [(u16, &str, &str); 68] = [
+static FINDING_RULES: [(u16, &str, &str); 72] = [
     (
         101,
         "debug directory",
@@ -366,6 +366,18 @@ static FINDING_RULES: [(u16, &str, &str); 68] = [
         116,
         "function in the exception table",
         "it begins before the function that is before it in the table",
+    ),
+    (117, "unwind information", "its version is neither 1 nor 2"),
+    (
+        118,
+        "unwind code",
+        "its operation takes more slots than are left",
+    ),
+    (119, "unwind code", "its operation is not known"),
+    (
+        120,
+        "unwind information",
+        "its chain leaves the image, or does not end within 32",
     ),
     (
         131,

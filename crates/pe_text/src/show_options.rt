@@ -9,12 +9,14 @@ pub struct ShowOptions {
     pub imports: bool,
     /// The base relocations of an image, by page; the relocations of an object, a row each.
     pub relocations: bool,
-    /// The symbols of an object, a row each.
+    /// The symbols of an object or of an image, a row each.
     pub symbols: bool,
     /// The entries of the debug directory, a row each.
     pub debug: bool,
     /// The functions of the exception table, a row each.
     pub functions: bool,
+    /// The unwind information of each function of an AMD64 or ARM64 image, below its row.
+    pub unwind: bool,
     /// The fields of the TLS directory, and its callbacks, a row each.
     pub tls: bool,
     /// The fields of the load configuration, a row each.
@@ -36,6 +38,7 @@ impl ShowOptions {
         symbols: true,
         debug: true,
         functions: true,
+        unwind: true,
         tls: true,
         load: true,
         resources: true,

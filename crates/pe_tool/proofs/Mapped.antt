@@ -1,12 +1,10 @@
 -- The report of a space agrees with the set that it was mapped from.
-use Rattle.std.proofs.Common.{◌≡◌, ◌∙◌, ℕ, zero, suc, ◌+◌, ◌%◌, ◌<◌, ◌≤◌, ◌^◌, Bool, false, cond, List, [], ◌∷◌, ◌++◌, length, map, refl, sym, ap, subst, arith, Some, None, Ok, Err}
-use Rattle.std.specs.Prelude.{Option, All, ◌==◌, unwrap_or, option_map, slice_index_or, Result}
-use Rattle.std.proofs.lemmas.Simd.{map-map}
+use Rattle.std.proofs.Common.{◌≡◌, ◌∙◌, ℕ, zero, suc, ◌+◌, ◌<◌, ◌≤◌, ◌^◌, Bool, cond, List, [], ◌∷◌, ◌++◌, length, map, refl, sym, ap, subst, arith, Some, None, Ok, Err}
+use Rattle.std.specs.Prelude.{Option, All, unwrap_or, option_map, slice_index_or, Result}
 use Rattle.std.proofs.lemmas.List.{length-map}
 use Rattle.std.proofs.lemmas.Option.{slice_get-map}
-use Rattle.std.proofs.lemmas.Bool.{le-leb, ne_eqb}
 use Rattle.pe_view.specs.declared.fault.Fault.{Fault}
-use Rattle.pe_set.specs.Placement.{Placement, address_limit, placement_at}
+use Rattle.pe_set.specs.Placement.{Placement, address_limit}
 use Rattle.pe_set.specs.Set as sets
 use Rattle.pe_set.specs.Set.{Module, modules_from, modules_of}
 use Rattle.pe_set.specs.SetView.{entry_view, entries_of}
@@ -15,58 +13,17 @@ use Rattle.pe_set.specs.Bindings.{bindings_of}
 use Rattle.pe_set.specs.declared.binding.Binding.{Binding}
 use Rattle.pe_set.specs.declared.entry.SetEntry.{SetEntry}
 use Rattle.pe_space.specs.Content as contents
-use Rattle.pe_space.specs.Content.{Content, placement_of, nth_image, holder_from, byte_at, size_in, window_image_by, window_image, window_in, window_at}
+use Rattle.pe_space.specs.Content.{Content, placement_of, nth_image, holder_from, byte_at, size_in, window_image, window_in, window_at}
 use Rattle.pe_space.specs.ImagesApart.{ImagesApart}
-use Rattle.pe_space.specs.SetContent.{image_content, laid_out, content_of}
-use Rattle.pe_space.specs.FieldsAndSlots.{Apart}
-use Rattle.pe_space.proofs.Accepting.{placed}
-use Rattle.pe_space.proofs.Addressing.{Holds, holder_inside, holder_is, placed_at, window_lies}
-use Rattle.pe_space.proofs.Defining.{placements_bared}
+use Rattle.pe_space.proofs.Addressing.{Holds, holder_inside, holder_is, window_lies}
 use Rattle.pe_space.proofs.Images.{modules_count, all_got}
 use Rattle.pe_space.proofs.Asked.{limit_le}
 use Rattle.pe_space.proofs.SlotsAndFields.{is_in-true, true-is_in}
+use Rattle.pe_space_file.proofs.Placed.{given, not_empty}
 use Rattle.pe_tool.specs.MapReport.{image_line, told_line, export_address, bytes_from, refusal_of, window_lines}
 use Rattle.pe_text.specs.Text.{numbered}
 
--- ---- the places of the images
-pub placements_kept : (s : List Module) → map placement_of (content_of s).images ≡ map sets.placement_of s
-unfolding content_of laid_out
-placements_kept s = placements_bared 0 (bindings_of s) (map image_content s) ∙ map-map placement_of image_content s
-
-pub bindings_kept : (s : List Module) → (content_of s).bindings ≡ bindings_of s
-unfolding content_of laid_out
-bindings_kept s = refl
-
-placements_laid : (s : List Module) → map placement_of (laid_out s).images ≡ map sets.placement_of s
-unfolding laid_out
-placements_laid s = map-map placement_of image_content s
-
-bindings_laid : (s : List Module) → (laid_out s).bindings ≡ bindings_of s
-unfolding laid_out
-bindings_laid s = refl
-
--- whether images have valid places depends only on their placements and bindings
-placed_alike : (c d : Content) → map placement_of c.images ≡ map placement_of d.images → c.bindings ≡ d.bindings → ImagesApart d → ImagesApart c
-placed_alike c d same bound all =
-    let at : (j : ℕ) → placement_of (nth_image c.images j) ≡ placement_of (nth_image d.images j) =
-    λ j. sym (placed_at c.images j) ∙ ap (λ (ps : List Placement). placement_at ps j) same ∙ placed_at d.images j in
-    let count : length c.images ≡ length d.images = sym (length-map c.images placement_of) ∙ ap length same ∙ length-map d.images placement_of in
-    let few = all.few in
-    record {
-      few = omega (arith, few, count);
-      few_slots = subst (λ (bs : List Binding). length bs < 2 ^ 32) (sym bound) all.few_slots;
-      aligned = λ j. subst (λ (p : Placement). p.base % 65536 ≡ 0) (sym (at j)) (all.aligned j);
-      room = λ j. subst (λ (p : Placement). p.base + p.size ≤ address_limit p.magic) (sym (at j)) (all.room j);
-      some = λ j lt. subst (λ (p : Placement). 0 < p.size) (sym (at j)) (all.some j (omega (arith, lt, count)));
-      apart = λ j k lt lt' ne.
-          subst (λ (p : Placement). Apart p.base p.size (nth_image c.images k).base (nth_image c.images k).size) (sym (at j))
-          (subst (λ (q : Placement). Apart (nth_image d.images j).base (nth_image d.images j).size q.base q.size) (sym (at k)) (all.apart j k (omega (arith, lt, count)) (omega (arith, lt', count)) ne));
-    }
-
-pub placed_kept : (s : List Module) → IsSound s → ImagesApart (content_of s)
-placed_kept s sound =
-    placed_alike (content_of s) (laid_out s) (placements_kept s ∙ sym (placements_laid s)) (bindings_kept s ∙ sym (bindings_laid s)) (placed s sound)
-
+-- ---- their lines
 -- an accepted set has at most 256 images
 pub few_entries : (set : List SetEntry) → IsSound (modules_of (entries_of set)) → length set ≤ 256
 few_entries set sound =
@@ -74,7 +31,6 @@ few_entries set sound =
     let count = modules_count (entries_of set) ∙ length-map set entry_view in
     omega (arith, few, count)
 
--- ---- their lines
 images_from : (ps : List Placement) (n : ℕ) (set : List SetEntry) → ((k : ℕ) → size_in ps (n + k) ≡ size_in (map sets.placement_of (modules_from n (map entry_view set))) k)
     → numbered (λ (number : ℕ) (e : SetEntry). told_line ps number (entry_view e)) n set
     ≡ numbered (λ (number : ℕ) (m : Module). image_line number m.name m.base m.image.size) n (modules_from n (map entry_view set))
@@ -119,22 +75,10 @@ lies_at : (c : Content) (a n : ℕ) (o : Result ℕ Fault) → window_image (map
 lies_at c a n (Err fault) is none = absurd cc
 lies_at c a n (Ok j) is none = let lies = window_lies c.images a n j is in (j, record { held = lies.0; inside = lies.1 })
 
-not_empty : (n : ℕ) → (suc n == 0) ≡ false
-not_empty n = ne_eqb (suc n) 0 (λ is. absurd (omega (arith, is)))
-
 lies_where : (c : Content) (a n : ℕ) → refusal_of (window_at c a (suc n)) ≡ None → (j : ℕ) × LiesIn c a (suc n) j
 lies_where c a n none =
     let w = window_image (map placement_of c.images) a (suc n) in
     lies_at c a (suc n) w refl (subst (λ (t : Bool). refusal_of (cond t (Ok []) (window_in c a (suc n) w)) ≡ None) (not_empty n) none)
-
--- a window in the image that contains its first address
-given : (c : Content) (a n j : ℕ) → holder_from 0 c.images a ≡ Some j → a + suc n ≤ (nth_image c.images j).base + (nth_image c.images j).size → window_at c a (suc n) ≡ Ok (contents.bytes_from c a (suc n))
-given c a n j held fits =
-    let ps = map placement_of c.images in
-    let end : a + suc n ≤ (placement_at ps j).base + (placement_at ps j).size = subst (λ (p : Placement). a + suc n ≤ p.base + p.size) (sym (placed_at c.images j)) fits in
-    let image : window_image ps a (suc n) ≡ Ok j =
-    ap (window_image_by ps a (suc n)) held ∙ ap (λ (t : Bool). cond t (Ok j) (Err (contents.window_fault j a))) (le-leb _ _ end) in
-    ap (λ (t : Bool). cond t (Ok []) (window_in c a (suc n) (window_image ps a (suc n)))) (not_empty n) ∙ ap (window_in c a (suc n)) image
 
 -- a part of it is a window too
 part_of : (c : Content) → ImagesApart c → (a n j : ℕ) → LiesIn c a n j → (k m : ℕ) → k + suc m ≤ n → window_at c (a + k) (suc m) ≡ Ok (bytes_from (byte_at c) (a + k) (suc m))

@@ -31,6 +31,7 @@ pub use coff_lines::{
 };
 pub use object_sized::dump_object_sized;
 pub use pe_at::{Spot, at, at_each, at_each_sized, at_each_text, at_sized};
+pub use pe_at_map::at_map;
 pub use pe_detail::{Detail, DetailText, fault_detail};
 pub use pe_json::{Beyond, json, json_parts, json_sized, print_line};
 pub use pe_layout_file::{ImageFile, lay_out, lay_out_file};
@@ -48,6 +49,7 @@ pub use pe_show::{
     Page, ShowOptions, show, show_page, show_page_sized, show_page_text, show_sized,
 };
 pub use pe_space::{Policy, SetEntry};
+pub use pe_space_file::MappedImages;
 pub use pe_text::{
     Counted, Failed, FaultText, FaultWords, FileKind, Outcome, Sink, Source, ToolError,
     fault_words, file_kind, other_kind, read_up_to, read_whole, status, write_refusal,

@@ -13,7 +13,7 @@ use std::alloc::{AllocError, Global};
 
 /// The purpose of `at`, for help.
 const AT_ABOUT: &str =
-    "Prints what is at an RVA of an image: its address and file offset, its section, and the export, slot, field, row of a table or header there; or what is at an offset in a section of an object";
+    "Prints what is at an RVA of an image: its address and file offset, its section, and the export, symbol, slot, field, row of a table or header there; or what is at an offset in a section of an object";
 
 /// The help on the addresses.
 const PLACES: &str =
@@ -21,6 +21,10 @@ const PLACES: &str =
 
 /// The help on `--address`.
 const ADDRESS: &str = "Each ADDRESS is a virtual address, with the image at its ImageBase";
+
+/// The help on `--map`.
+const MAP: &str =
+    "Maps images, given as HEX=FILE like those of map, and prints what is at each ADDRESS of their address space";
 
 /// The help on `--file`.
 const OFFSET: &str = "Each ADDRESS is a file offset";
@@ -31,9 +35,13 @@ const EXPLAIN_ABOUT: &str = "Explains a fault by its number, or lists all faults
 /// The subcommand `at`.
 pub(crate) fn at_command<'a>(alloc: Global) -> Result<Command<'a>, AllocError> {
     let offset = flag(alloc, "file", OFFSET).conflicts_with("address")?;
+    let map = flag(alloc, "map", MAP)
+        .conflicts_with("address")?
+        .conflicts_with("file")?;
     let command = Ok(new_command(alloc, "at", AT_ABOUT));
     let command = with_argument(command, flag(alloc, "address", ADDRESS));
     let command = with_argument(command, offset);
+    let command = with_argument(command, map);
     let file = required_argument(
         alloc,
         "FILE",
@@ -77,7 +85,7 @@ fn address_kind(found: &ArgMatches<'_>) -> AddressKind
 }
 
 /// A bad address.
-fn bad_address<'a>(value: &'a str, reason: &'static str) -> BadValue<'a>
+pub(crate) fn bad_address<'a>(value: &'a str, reason: &'static str) -> BadValue<'a>
     ensures value { result.value.now ≡ value.now }
     ensures argument { result.argument.now ≡ codes "<ADDRESS>" }
     ensures reason { result.reason.now ≡ reason.now }

@@ -120,7 +120,7 @@ const COLOR: &str =
     "When pages have colours: auto, on a terminal unless NO_COLOR is set or TERM is dumb; always; or never";
 
 /// The options of `show` that add rows, each with its help.
-const SHOW_OPTIONS: [(&str, &str); 11] = [
+const SHOW_OPTIONS: [(&str, &str); 12] = [
     ("exports", "Prints each export"),
     (
         "imports",
@@ -133,6 +133,10 @@ const SHOW_OPTIONS: [(&str, &str); 11] = [
     ("symbols", "Prints each symbol of an object or an image"),
     ("debug", "Prints each entry of the debug directory"),
     ("functions", "Prints each function of the exception table"),
+    (
+        "unwind",
+        "Prints the unwind information of each function below it",
+    ),
     ("tls", "Prints the TLS directory and its callbacks"),
     ("load", "Prints the load configuration"),
     (
@@ -245,6 +249,7 @@ fn options_of(found: &ArgMatches<'_>) -> ShowOptions {
         symbols: is_all || found.get_flag("symbols"),
         debug: is_all || found.get_flag("debug"),
         functions: is_all || found.get_flag("functions"),
+        unwind: is_all || found.get_flag("unwind"),
         tls: is_all || found.get_flag("tls"),
         load: is_all || found.get_flag("load"),
         resources: is_all || found.get_flag("resources"),

@@ -81,6 +81,12 @@ pub enum Job<P> {
         file: String,
         places: Vec<AtPlace>,
     },
+    /// `at --map HEX=FILE... ADDRESS...`: map images at their bases, and write what is at addresses.
+    AtMap {
+        policy: P,
+        files: Vec<MapFile>,
+        addresses: Vec<u64>,
+    },
     /// `resource FILE`: write a line for each resource of an image; `resource FILE LEAF`: write one as a file, or as it stands in the
     /// image.
     Resource {
@@ -156,6 +162,17 @@ pub enum Job<P> {
     MapUnbound {
         policy: P,
         window: Option<(u64, u32)>,
+        files: Vec<MapFile>,
+    },
+    /// `map --write DIR HEX=FILE...`: write one of these, and then each image as it stands in the space to a file of a folder, if the
+    /// images have at most this many bytes together.
+    MapWrite {
+        policy: P,
+        window: Option<(u64, u32)>,
+        is_unbound: bool,
+        most: u64,
+        /// The path of the folder.
+        folder: String,
         files: Vec<MapFile>,
     },
 }

@@ -14,6 +14,7 @@
 #![tactic(auto)]
 
 mod archive_words;
+mod at_map_words;
 mod at_words;
 mod builders;
 mod commands;

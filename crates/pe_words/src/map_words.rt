@@ -2,12 +2,16 @@
 
 use crate::builders::{argument, flag, new_command, required_argument, with_argument};
 use crate::job::MapFile;
+use crate::layout_words::{most_of, within_option};
 use crate::word_values::{BadValue, NoJob, address_of};
 use clap::{Arg, ArgAction, ArgMatches, Command};
 use std::alloc::{AllocError, Global};
 
 /// The greatest length of a window in bytes.
 const MAX_COUNT: u32 = 4096;
+
+/// How many bytes the images may have together that are written, unless `--within` says another number.
+const MOST_BYTES: &str = "4G";
 
 /// The purpose of `map`, for help.
 const ABOUT: &str =
@@ -33,6 +37,10 @@ const UNBOUND: &str = "Prints the imports that are bound to nothing, one per lin
 /// The help on `--window`.
 const WINDOW: &str = "Prints the bytes from this address on, 16 per line";
 
+/// The help on `--write`.
+const WRITE: &str =
+    "Writes each image as it is mapped, SizeOfImage bytes, to the file of its module's name in this folder";
+
 /// The help on the files.
 const FILES: &str =
     "An image's base and its file, or - for standard input; the file's name is the module's name, unless HEX:NAME=FILE gives one";
@@ -45,6 +53,10 @@ pub(crate) struct MapWords {
     /// Whether the imports that are bound to nothing are written too.
     pub is_unbound: bool,
     pub window: Option<(u64, u32)>,
+    /// The folder in which each image is written to a file, if they are.
+    pub folder: Option<String>,
+    /// How many bytes the images may have together that are written.
+    pub most: u64,
     pub files: Vec<MapFile>,
 }
 
@@ -63,6 +75,13 @@ fn count_option<'a>(alloc: Global) -> Arg<'a> {
         .default_value("16")
 }
 
+/// The option `--write`.
+fn write_option<'a>(alloc: Global) -> Arg<'a> {
+    argument(alloc, "write", WRITE)
+        .long("write")
+        .value_name("DIR")
+}
+
 /// The argument for the files to map.
 fn file_arguments<'a>(alloc: Global) -> Arg<'a> {
     required_argument(alloc, "HEX=FILE", FILES)
@@ -77,6 +96,8 @@ pub(crate) fn map_command<'a>(alloc: Global) -> Result<Command<'a>, AllocError> 
     let command = with_argument(command, flag(alloc, "unbound", UNBOUND));
     let command = with_argument(command, window_option(alloc));
     let command = with_argument(command, count_option(alloc));
+    let command = with_argument(command, write_option(alloc));
+    let command = with_argument(command, within_option(alloc).default_value(MOST_BYTES));
     with_argument(command, file_arguments(alloc))
 }
 
@@ -151,9 +172,27 @@ fn parts_of(value: &str) -> Result<(u64, &str, &str), &'static str> {
     }
 }
 
-/// The file of a word.
-fn file_of<'a>(alloc: Global, value: &'a str) -> Result<MapFile, NoJob<'a>> {
-    match parts_of(value) {
+/// Whether a file of a folder can have a name.
+fn is_file_name(name: &str) -> bool {
+    !name.contains('/') && name != "." && name != ".."
+}
+
+/// The base and the path of a file to map, and its module's name, which is that of a file too if the image is written.
+fn named_parts_of(value: &str, is_written: bool) -> Result<(u64, &str, &str), &'static str> {
+    let (base, path, name) = parts_of(value)?;
+    if is_written && !is_file_name(name) {
+        return Err("no file for --write has the module's name");
+    }
+    Ok((base, path, name))
+}
+
+/// The file of a word, whose module has the name of a file if the image is written.
+pub(crate) fn file_of<'a>(
+    alloc: Global,
+    value: &'a str,
+    is_written: bool,
+) -> Result<MapFile, NoJob<'a>> {
+    match named_parts_of(value, is_written) {
         Ok((base, path, name)) => Ok(MapFile {
             base,
             path: String::from_str(alloc, path)?,
@@ -167,13 +206,25 @@ fn file_of<'a>(alloc: Global, value: &'a str) -> Result<MapFile, NoJob<'a>> {
     }
 }
 
-/// The files to map.
-fn files_of<'a>(alloc: Global, found: &ArgMatches<'a>) -> Result<Vec<MapFile>, NoJob<'a>> {
+/// The files to map, whose modules have the names of files if the images are written.
+fn files_of<'a>(
+    alloc: Global,
+    found: &ArgMatches<'a>,
+    is_written: bool,
+) -> Result<Vec<MapFile>, NoJob<'a>> {
     let mut files = Vec::new(alloc);
     for value in found.get_strs("HEX=FILE").unwrap_or(&[]) {
-        files.push(file_of(alloc, value)?)?;
+        files.push(file_of(alloc, value, is_written)?)?;
     }
     Ok(files)
+}
+
+/// The folder in which the images are written, if they are.
+fn folder_of(alloc: Global, found: &ArgMatches<'_>) -> Result<Option<String>, AllocError> {
+    match found.get_str("write") {
+        Some(folder) => Ok(Some(String::from_str(alloc, folder)?)),
+        None => Ok(None),
+    }
 }
 
 /// The words of `map` as values.
@@ -182,10 +233,18 @@ pub(crate) fn map_words<'a>(alloc: Global, found: &ArgMatches<'a>) -> Result<Map
         Ok(window) => window,
         Err(bad) => return Err(NoJob::Bad(bad)),
     };
+    let most = match most_of(found) {
+        Ok(most) => most,
+        Err(bad) => return Err(NoJob::Bad(bad)),
+    };
+    let folder = folder_of(alloc, found)?;
+    let files = files_of(alloc, found, folder.is_some())?;
     Ok(MapWords {
         is_known: found.get_flag("known"),
         is_unbound: found.get_flag("unbound"),
         window,
-        files: files_of(alloc, found)?,
+        folder,
+        most,
+        files,
     })
 }

@@ -1,11 +1,12 @@
 //! `parse_words`: the job of a command line.
 
-ghost use Rattle.std.specs.Prelude.{◌≡◌, if◌then◌else◌};
+ghost use Rattle.std.specs.Prelude.{◌≡◌, MatchOption, if◌then◌else◌};
 
+use crate::at_map_words::at_map_words;
 use crate::at_words::{at_command, explain_command, number_of, places_of};
 use crate::commands::{command, command_named};
 use crate::file_words::{file_job, file_of, usage_of};
-use crate::job::{Job, WordsError};
+use crate::job::{Job, MapFile, WordsError};
 use crate::layout_words::{layout_command, most_of};
 use crate::map_words::{MapWords, map_command, map_words};
 use crate::rebase_words::{base_of, rebase_command};
@@ -38,16 +39,15 @@ fn value_refusal(alloc: Global, command: Command<'_>, name: &str, bad: BadValue<
     }
 }
 
-/// The job of words of `map`.
-fn job_of_map<P>(words: MapWords, policy: P) -> Job<P>
-    ensures { result ≡ (if words.is_unbound then Job.MapUnbound policy words.window words.files else Job.Map policy words.window words.files) }
+/// The job of words of `map` that write no images.
+fn report_job<P>(
+    policy: P,
+    window: Option<(u64, u32)>,
+    is_unbound: bool,
+    files: Vec<MapFile>,
+) -> Job<P>
+    ensures { result ≡ (if is_unbound then Job.MapUnbound policy window files else Job.Map policy window files) }
 {
-    let MapWords {
-        is_unbound,
-        window,
-        files,
-        ..
-    } = words;
     if is_unbound {
         return Job::MapUnbound {
             policy,
@@ -59,6 +59,33 @@ fn job_of_map<P>(words: MapWords, policy: P) -> Job<P>
         policy,
         window,
         files,
+    }
+}
+
+/// The job of words of `map`.
+fn job_of_map<P>(words: MapWords, policy: P) -> Job<P>
+    ensures { MatchOption words.folder
+        (result ≡ (if words.is_unbound then Job.MapUnbound policy words.window words.files else Job.Map policy words.window words.files))
+        (λ folder. result ≡ Job.MapWrite policy words.window words.is_unbound words.most folder words.files) }
+{
+    let MapWords {
+        is_unbound,
+        window,
+        folder,
+        most,
+        files,
+        ..
+    } = words;
+    match folder {
+        Some(folder) => Job::MapWrite {
+            policy,
+            window,
+            is_unbound,
+            most,
+            folder,
+            files,
+        },
+        None => report_job(policy, window, is_unbound, files),
     }
 }
 
@@ -116,6 +143,23 @@ fn at_job<P: Copy>(alloc: Global, found: &ArgMatches<'_>) -> Result<Job<P>, Word
     }
 }
 
+/// The job of the words of `at --map`.
+fn at_map_job<P: Copy>(
+    alloc: Global,
+    found: &ArgMatches<'_>,
+    policy: P,
+) -> Result<Job<P>, WordsError> {
+    match at_map_words(alloc, found) {
+        Ok(words) => Ok(Job::AtMap {
+            policy,
+            files: words.files,
+            addresses: words.addresses,
+        }),
+        Err(NoJob::Bad(bad)) => Err(value_refusal(alloc, at_command(alloc)?, "petool at", bad)),
+        Err(NoJob::Memory) => Err(WordsError::Memory),
+    }
+}
+
 /// The job of the words of `explain`.
 fn explain_job<P: Copy>(alloc: Global, found: &ArgMatches<'_>) -> Result<Job<P>, WordsError> {
     match number_of(found) {
@@ -166,6 +210,7 @@ fn job_of<P: Copy>(
         "map" => map_job(alloc, found, strict, known),
         "layout" => layout_job(alloc, found),
         "rebase" => rebase_job(alloc, found),
+        "at" if found.get_flag("map") => at_map_job(alloc, found, known),
         "at" => at_job(alloc, found),
         "explain" => explain_job(alloc, found),
         "resource" => Ok(resource_job(alloc, found)?),
@@ -182,7 +227,8 @@ fn matches_of<'a>(alloc: Global, words: &'a [String]) -> Result<ArgMatches<'a>, 
     }
 }
 
-/// The job of the words after the program's name. The policy of `map` is `known` if its option is given, otherwise `strict`.
+/// The job of the words after the program's name. The policy of `map` is `known` if its option is given, otherwise `strict`; that of `at
+/// --map` is `known`.
 ///
 /// `Bad` and `Help` contain clap's own text, or one of its form. `Memory` comes only if an allocation failed.
 pub fn parse_words<P: Copy>(

@@ -26,6 +26,6 @@ mod write;
 
 pub use error::WriteError;
 pub use plan::{Plan, PlanSection};
-pub use rebase::rebase_file;
+pub use rebase::{rebase_file, rebase_image};
 pub use summed::{put_check_sum, rebase_file_summed};
 pub use write::write_image;

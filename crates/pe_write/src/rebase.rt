@@ -1,10 +1,12 @@
 //! `rebase_file`: the file of an image for another base, or the first fault that prevents it.
 
-ghost use Rattle.std.specs.Prelude.{◌≡◌, ◌≤◌, ◌+◌, ⊤, length, pos, ◌-ℤ◌, Some, Err, IfOk};
+ghost use Rattle.std.specs.Prelude.{◌≡◌, ◌≤◌, ◌+◌, ⊤, length, pos, ◌-ℤ◌, None, Some, Err, IfOk};
 ghost use Rattle.pe_view.specs.declared.fault.Fault as code_fault;
 ghost use Rattle.pe_view.specs.Faults.{Answers, first_standing, AnswersOrWants};
 ghost use Rattle.pe_layout.specs.SectionFaults.{layout_tests};
+ghost use Rattle.pe_layout.specs.Image.{image_of_file};
 ghost use Rattle.pe_layout.specs.Layout.{headers_of, image_of, IsLayoutOf};
+ghost use Rattle.pe_image.specs.ImageTests.{relocation_tests};
 ghost use Rattle.pe_tables.specs.Fixups.{fixups_of};
 ghost use Rattle.pe_write.specs.Rebase.{rebased, check_sum_place, put_header, moved_all};
 ghost use Rattle.pe_write.specs.Rebased.{IsRebased};
@@ -47,14 +49,17 @@ fn put_header(bytes: &mut [u8], headers: &Headers, base: u64)
     write_low(bytes, optional + CHECK_SUM, 0, 4);
 }
 
-/// Relocates every fixup's field to a base, in a copy of the layout's file, or returns fault 51.
-fn move_fields(bytes: &mut [u8], layout: &Layout, fixups: &[Fixup], base: u64) -> Result<(), Fault>
-    requires { AreLaid (headers_of layout.now) (length bytes.old) }
-    ensures { let headers = headers_of layout.now in
-        Answers (fields_tests headers fixups.now)
-        (λ _. bytes.new ≡ moved_all headers (pos base -ℤ pos headers.image_base) fixups.now bytes.old) result }
+/// Relocates every fixup's field to a base, in a copy of the file of these headers, or returns fault 51.
+fn move_fields(
+    bytes: &mut [u8],
+    headers: &Headers,
+    fixups: &[Fixup],
+    base: u64,
+) -> Result<(), Fault>
+    requires { AreLaid headers.now (length bytes.old) }
+    ensures { Answers (fields_tests headers.now fixups.now)
+        (λ _. bytes.new ≡ moved_all headers.now (pos base -ℤ pos headers.now.image_base) fixups.now bytes.old) result }
 {
-    let headers = layout.headers();
     let mut section = SectionHeader::default();
     for fixup in fixups {
         section = holder(headers, section, *fixup)?;
@@ -73,9 +78,33 @@ fn rewrite(bytes: &mut [u8], layout: &Layout, fixups: &[Fixup], base: u64) -> Re
         Answers (data_tests headers fixups.now)
         (λ _. bytes.new ≡ moved_all headers (pos base -ℤ pos headers.image_base) fixups.now (put_header headers base bytes.old)) result }
 {
-    put_header(bytes, layout.headers(), base);
-    move_fields(bytes, layout, fixups, base)?;
-    check_raw_data(layout.headers())
+    let headers = layout.headers();
+    put_header(bytes, &headers, base);
+    move_fields(bytes, &headers, fixups, base)?;
+    check_raw_data(&headers)
+}
+
+/// The file of an image for another base, as [`rebase_file`] makes it, from the layout and the base relocations that were read of it, in
+/// which there is no fault. The error is the first of faults 44 to 46, 51 and 52, or [`WriteError::Memory`].
+pub fn rebase_image<A: Allocator + Copy>(
+    alloc: A,
+    file: &[u8],
+    layout: &Layout,
+    fixups: &[Fixup],
+    base: u64,
+) -> Result<Vec<u8, A>, WriteError>
+    requires laid { first_standing (layout_tests 0 file.now) ≡ None }
+    requires shows { IsLayoutOf file.now 0 layout.now }
+    requires sound { first_standing (relocation_tests (image_of_file 0 file.now)) ≡ None }
+    requires read { fixups.now ≡ fixups_of (image_of_file 0 file.now) }
+    ensures { AnswersOrWants (rebase_tests file.now base) (λ bytes. bytes.items ≡ rebased file.now base) result }
+{
+    pe_layout::laws::sections_are_apart();
+    pe_tables::laws::fields_are_apart();
+    check_base(layout, base)?;
+    let mut bytes = Vec::from_slice(alloc, file)?;
+    rewrite(&mut bytes, layout, fixups, base)?;
+    Ok(bytes)
 }
 
 /// The file of an image for another base. It has the same length; each fixup's field is relocated by the difference of the base
@@ -101,8 +130,6 @@ pub fn rebase_file<A: Allocator + Copy>(
     pe_tables::laws::fields_are_apart();
     let layout = lay_out(file, 0)?;
     let fixups = read_relocations(alloc, &layout)?;
-    check_base(&layout, base)?;
-    let mut bytes = Vec::from_slice(alloc, file)?;
-    rewrite(&mut bytes, &layout, &fixups, base)?;
+    let bytes = rebase_image(alloc, file, &layout, &fixups, base)?;
     Ok(bytes)
 }

@@ -40,7 +40,7 @@ pub extern "C" fn petool_findings(
         Ok(found) => {
             let others = found.others.as_slice();
             let between = found.between.as_slice();
-            tell_all_findings(others, between, view, layout.headers(), rows, count)
+            tell_all_findings(others, between, view, &layout.headers(), rows, count)
         }
         Err(_) => status::MEMORY,
     }

@@ -35,7 +35,8 @@ pub extern "C" fn petool_read_headers(
         Ok(layout) => layout,
         Err(first) => return refuse(first, fault),
     };
-    *headers = headers_record(layout.headers());
-    put_sections(sections, layout.headers().sections.as_slice());
+    let read = layout.headers();
+    *headers = headers_record(&read);
+    put_sections(sections, read.sections.as_slice());
     status::DONE
 }

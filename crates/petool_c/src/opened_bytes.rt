@@ -1,12 +1,14 @@
-//! Bytes of an open image: `petool_image_read`, `_read_text` and `_locate`.
+//! Bytes of an open image: `petool_image_read`, `_read_text`, `_locate` and `_rebase`.
 
 ghost use Rattle.std.specs.Prelude.{◌≡◌, ◌↔◌, false, length};
 ghost use Rattle.pe_opened.specs.Held.{file_in};
-ghost use Rattle.pe_records_c.specs.Images.{IsBytesOf, IsTextOf, IsOffsetOf};
+ghost use Rattle.pe_records_c.specs.Images.{IsBytesOf, IsTextOf, IsOffsetOf, IsRebaseOf};
 
 use crate::lending::with_image;
 use pe_opened::ImageHandle;
+use pe_records_c::fault::FaultRecord;
 use pe_records_c::opened::{tell_bytes, tell_offset, tell_text};
+use pe_records_c::opened_rebase::tell_rebased;
 use pe_records_c::text::TextRecord;
 use std::alloc::Global;
 
@@ -65,4 +67,29 @@ pub extern "C" fn petool_image_locate(
     ensures open_kept { image.new.is_open ≡ image.old.is_open }
 {
     with_image!(alloc, image, |opened| tell_offset(opened, rva, offset))
+}
+
+/// Writes the file of an open image for another base into a buffer of the file's length, as [`petool_rebase`](crate::rebase::petool_rebase)
+/// does; the tables are not read again.
+///
+/// The status is 0; 1 with the first fault of the base (44 to 46) and of what cannot be written (51, 52); 2, out of memory; 5 if the
+/// buffer does not have the file's length; or 6 if the image is closed. All but 0 leave the buffer unchanged.
+#[unsafe(no_mangle)]
+pub extern "C" fn petool_image_rebase(
+    alloc: Global,
+    image: &mut ImageHandle,
+    base: u64,
+    buffer: &mut [u8],
+    fault: &mut FaultRecord,
+) -> u32
+    ensures exact { IsRebaseOf (file_in image.old.image) base buffer.old buffer.new fault.old fault.new result }
+    ensures closed { image.old.is_open ≡ false → result ≡ 6 }
+    ensures image_kept { file_in image.new.image ≡ file_in image.old.image }
+    ensures open_kept { image.new.is_open ≡ image.old.is_open }
+{
+    with_image!(
+        alloc,
+        image,
+        |opened| tell_rebased(alloc, opened, base, buffer, fault)
+    )
 }

@@ -247,7 +247,7 @@ pub struct Headers {
     pub pe_offset: u32,
     /// When the image was made, in seconds since 1970, as written.
     pub time_date_stamp: u32,
-    /// The file offset of the symbol table, which is not read.
+    /// The file offset of the symbol table, or 0 if there is none.
     pub pointer_to_symbol_table: u32,
     /// How many records the symbol table has.
     pub number_of_symbols: u32,
@@ -1386,6 +1386,7 @@ extern "C" {
     pub fn petool_image_export_names(image: *mut Image, rows: *mut Export, room: usize, count: *mut usize) -> u32;
     pub fn petool_image_imports(image: *mut Image, rows: *mut Import, room: usize, count: *mut usize) -> u32;
     pub fn petool_image_fixups(image: *mut Image, rows: *mut Fixup, room: usize, count: *mut usize) -> u32;
+    pub fn petool_image_rebase(image: *mut Image, base: u64, buffer: *mut u8, room: usize, fault: *mut Fault) -> u32;
     pub fn petool_image_close(image: *mut Image);
 
     pub fn petool_rebase(

@@ -1,7 +1,6 @@
 //! One image: its bytes, its exports, and its file at another base.
 
 use crate::opened::{open, Asked};
-use crate::rows::room_of;
 use crate::{Error, Headers, Import, OutOfMemory, Section, Tables, Target};
 use petool_sys as sys;
 use std::sync::{Mutex, PoisonError};
@@ -122,23 +121,7 @@ impl<'a> Image<'a> {
     /// # Ok::<(), petool::Error>(())
     /// ```
     pub fn rebased(&self, base: u64) -> Result<Vec<u8>, Error> {
-        let mut out = room_of(0, self.file.len())?;
-        let mut fault = sys::Fault::default();
-        // SAFETY: the file is a complete slice, which nobody writes to, and the new one is not shared
-        let status = unsafe {
-            sys::petool_rebase(
-                self.file.as_ptr(),
-                self.file.len(),
-                base,
-                out.as_mut_ptr(),
-                out.len(),
-                &mut fault,
-            )
-        };
-        match status {
-            sys::PETOOL_OK => Ok(out),
-            _ => Err(Error::of(status, fault)),
-        }
+        self.ask(|image| image.rebased(base))
     }
 }
 

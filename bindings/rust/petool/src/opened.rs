@@ -1,6 +1,6 @@
 //! Images that are kept open for many look-ups.
 
-use crate::rows::text_of;
+use crate::rows::{room_of, text_of};
 use crate::{Error, Import, OutOfMemory, Tables, Target};
 use petool_sys as sys;
 
@@ -115,6 +115,17 @@ impl<'a> Asked<'_, 'a> {
         let status = unsafe { sys::petool_image_locate(self.raw, rva, &mut offset) };
         (status == sys::PETOOL_OK).then_some(offset)
     }
+
+    pub(crate) fn rebased(self, base: u64) -> Result<Vec<u8>, Error> {
+        let mut out = room_of(0, self.file.len())?;
+        let mut fault = sys::Fault::default();
+        // SAFETY: the image is open; the new file is a complete slice, and not shared
+        let status = unsafe { sys::petool_image_rebase(self.raw, base, out.as_mut_ptr(), out.len(), &mut fault) };
+        match status {
+            sys::PETOOL_OK => Ok(out),
+            _ => Err(Error::of(status, fault)),
+        }
+    }
 }
 
 impl<'a> OpenImage<'a> {
@@ -174,6 +185,11 @@ impl<'a> OpenImage<'a> {
     /// The file offset of the byte at an RVA; `None` if the file does not hold it.
     pub fn locate(&mut self, rva: u32) -> Option<u64> {
         self.asked().locate(rva)
+    }
+
+    /// The image's file for another base, as [`Image::rebased`](crate::Image::rebased) makes it.
+    pub fn rebased(&mut self, base: u64) -> Result<Vec<u8>, Error> {
+        self.asked().rebased(base)
     }
 }
 

@@ -345,6 +345,9 @@ fn a_file_is_rebased() {
         place: Place::Address(0x2000_0001),
     };
     assert_eq!(image.rebased(0x2000_0001), Err(Error::Fault(fault)));
+    let mut open = OpenImage::new(V2).unwrap();
+    assert_eq!(open.rebased(0x2000_0000).unwrap(), file);
+    assert_eq!(open.rebased(0x2000_0001), Err(Error::Fault(fault)));
 }
 
 #[test]

@@ -122,7 +122,7 @@ fn assert_headers(rt: &impl Abort, headers: &HeadersRecord) {
 fn other_headers(rt: &impl Abort, alloc: Global) -> HeadersRecord {
     let file = vector(rt, alloc, Vector::V1);
     let layout = Layout::new(View::new(&file), 0).ok().expect(rt, "an image");
-    headers_record(layout.headers())
+    headers_record(&layout.headers())
 }
 
 #[test]

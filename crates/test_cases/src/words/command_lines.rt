@@ -105,6 +105,20 @@ fn print_map_unbound<R: Print>(
     print_map(rt, policy, window, files)
 }
 
+/// Prints the job of `map --write`.
+fn print_map_write<R: Print>(
+    rt: &R,
+    policy: Policy,
+    window: Option<(u64, u32)>,
+    is_unbound: bool,
+    files: &[MapFile],
+) -> Option<()> {
+    if is_unbound {
+        return print_map_unbound(rt, policy, window, files);
+    }
+    print_map(rt, policy, window, files)
+}
+
 /// Prints the places of `at`, a line each.
 fn print_at<R: Print>(rt: &R, file: &str, places: &[AtPlace]) -> Option<()> {
     for place in places {
@@ -114,6 +128,20 @@ fn print_at<R: Print>(rt: &R, file: &str, places: &[AtPlace]) -> Option<()> {
                 println!(rt; "at {file} {section}+{offset:#x}").ok()?
             }
         }
+    }
+    Some(())
+}
+
+/// Prints the words of `at --map`.
+fn print_at_map<R: Print>(
+    rt: &R,
+    policy: Policy,
+    files: &[MapFile],
+    addresses: &[u64],
+) -> Option<()> {
+    print_map(rt, policy, None, files)?;
+    for address in addresses {
+        println!(rt; "at {address:#x}").ok()?;
     }
     Some(())
 }
@@ -136,6 +164,11 @@ fn print_job<R: Print>(rt: &R, job: &Job) -> Option<()> {
         } => print_json(rt, *beyond, *most, files),
         Job::Sum { files } => print_files(rt, "sum", files),
         Job::At { file, places } => print_at(rt, file, places),
+        Job::AtMap {
+            policy,
+            files,
+            addresses,
+        } => print_at_map(rt, *policy, files, addresses),
         Job::Resource { file, leaf, is_raw } => println!(rt;
             "resource {file} {leaf:?} {is_raw}"
         ).ok(),
@@ -162,6 +195,17 @@ fn print_job<R: Print>(rt: &R, job: &Job) -> Option<()> {
             window,
             files,
         } => print_map_unbound(rt, *policy, *window, files),
+        Job::MapWrite {
+            policy,
+            window,
+            is_unbound,
+            most,
+            folder,
+            files,
+        } => {
+            println!(rt; "write {folder} within {most}").ok()?;
+            print_map_write(rt, *policy, *window, *is_unbound, files)
+        }
         Job::Layout {
             most,
             source,

@@ -12,22 +12,17 @@ use Rattle.pe_text.specs.Outcome.{IsOutcomeOf}
 use Rattle.pe_page.proofs.Behind.{behind}
 use Rattle.pe_at.proofs.at_place.write_image_spots.Goals as goal
 
-pub returns-in_err-tables-in-Ok-clause-reads : goal.returns-in_err-tables-in-Ok-clause-reads
-returns-in_err-tables-in-Ok-clause-reads g c =
+pub returns-in_err-image-in-Ok-clause-reads : goal.returns-in_err-image-in-Ok-clause-reads
+returns-in_err-image-in-Ok-clause-reads g c =
     let p = err_from_is_err_and c.from_residual.result c.from_residual.ensures.1 in
     rw p.1 (has_bytes 0 (seen_of c.args.file) c.in-Ok.ensures.0)
 
-pub returns-in_err-tree-in-Ok-clause-reads : goal.returns-in_err-tree-in-Ok-clause-reads
-returns-in_err-tree-in-Ok-clause-reads g c =
-    let p = err_from_is_err_and c.from_residual-in_err-tree-in-Ok.result c.from_residual-in_err-tree-in-Ok.ensures.1 in
-    rw p.1 (has_bytes 0 (seen_of c.args.file) c.in-Ok.ensures.0)
-
-pub returns-in_ok-tree-in-Ok-clause-judged : goal.returns-in_ok-tree-in-Ok-clause-judged
+pub returns-in_ok-image-in-Ok-clause-judged : goal.returns-in_ok-image-in-Ok-clause-judged
 unfolding image_tests
-returns-in_ok-tree-in-Ok-clause-judged g c =
+returns-in_ok-image-in-Ok-clause-judged g c =
     let file = seen_of c.args.file in
     let outcome = c.outcome_of.result in
-    let judged = c.outcome_of.ensures (table_tests (image_of c.in-Ok.layout)) c.in_ok-tables-in-Ok.ensures.tables.fault in
+    let judged = c.outcome_of.ensures (table_tests (image_of c.in-Ok.layout)) c.in_ok-image-in-Ok.ensures.fault in
     behind (layout_tests 0 file) (table_tests (image_of_file 0 file)) outcome c.in-Ok.ensures.0
     (subst (λ (i : LaidOut). IsOutcomeOf (table_tests i) outcome) c.in-Ok.ensures.1.shows judged)
 

@@ -1,27 +1,26 @@
-use Rattle.std.proofs.Common.{◌≡◌, ◌∙◌, ◌+◌, ◌<◌, ◌≤◌, Some, sym, ap, arith}
-use Rattle.pe_head.specs.declared.headers.Headers.{Headers}
+use Rattle.std.proofs.Common.{◌≡◌, ◌∙◌, ◌<◌, ◌≤◌, Some, sym, arith}
 use Rattle.pe_layout.specs.Layout.{headers_of}
-use Rattle.pe_layout.specs.Piece.{end_of, section_of}
+use Rattle.pe_layout.specs.Piece.{section_of}
 use Rattle.pe_parts.proofs.Pieces.{end_in_headers, end_in_section, end_of_absent}
 use Rattle.pe_parts.proofs.held.held_piece.Goals as goal
 
 pub returns-then-rva-header_bytes-clause-ends : goal.returns-then-rva-header_bytes-clause-ends
 returns-then-rva-header_bytes-clause-ends c =
     let p = headers_of c.args.layout.now in
-    let bytes : c.headers-headers.result.now.size_of_headers ≡ p.size_of_headers = ap (λ (h : Headers). h.size_of_headers) c.headers-headers.ensures in
+    let bytes : c.size_of_headers-header_bytes.result ≡ p.size_of_headers = c.size_of_headers-header_bytes.ensures in
     c.from.ensures ∙ bytes ∙ sym (end_in_headers p c.args.rva (omega (arith, bytes, c.if-rva-header_bytes.true)))
 
 pub returns-then-rva-header_bytes-clause-all : goal.returns-then-rva-header_bytes-clause-all
 returns-then-rva-header_bytes-clause-all c = λ k low high.
     let p = headers_of c.args.layout.now in
-    let bytes : c.headers-headers.result.now.size_of_headers ≡ p.size_of_headers = ap (λ (h : Headers). h.size_of_headers) c.headers-headers.ensures in
+    let bytes : c.size_of_headers-header_bytes.result ≡ p.size_of_headers = c.size_of_headers-header_bytes.ensures in
     end_in_headers p k (omega (arith, bytes, high, c.from.ensures)) ∙ sym bytes ∙ sym c.from.ensures
 
 pub returns-then-section-eq0-clause-ends : goal.returns-then-section-eq0-clause-ends
 returns-then-section-eq0-clause-ends c =
     let p = headers_of c.args.layout.now in
-    let bytes : c.headers-headers.result.now.size_of_headers ≡ p.size_of_headers = ap (λ (h : Headers). h.size_of_headers) c.headers-headers.ensures in
-    let s = c.in-Some.section.now in
+    let bytes : c.size_of_headers-header_bytes.result ≡ p.size_of_headers = c.size_of_headers-header_bytes.ensures in
+    let s = c.in-Some.section in
     let found : section_of p c.args.rva ≡ Some s = sym (rw c.in-Some.is at c.section_at.ensures.found) in
     sym (end_of_absent p c.args.rva s (omega (arith, bytes, c.if-rva-header_bytes.false)) found (omega (arith, c.if-section-eq0.true)))
 
@@ -33,8 +32,8 @@ returns-clause-begins c =
 pub returns-clause-ends : goal.returns-clause-ends
 returns-clause-ends c =
     let p = headers_of c.args.layout.now in
-    let bytes : c.headers-headers.result.now.size_of_headers ≡ p.size_of_headers = ap (λ (h : Headers). h.size_of_headers) c.headers-headers.ensures in
-    let s = c.in-Some.section.now in
+    let bytes : c.size_of_headers-header_bytes.result ≡ p.size_of_headers = c.size_of_headers-header_bytes.ensures in
+    let s = c.in-Some.section in
     let found : section_of p c.args.rva ≡ Some s = sym (rw c.in-Some.is at c.section_at.ensures.found) in
     let high : p.size_of_headers ≤ c.args.rva = omega (arith, bytes, c.if-rva-header_bytes.false) in
     let some : 0 < s.pointer_to_raw_data = omega (arith, c.if-section-eq0.false) in

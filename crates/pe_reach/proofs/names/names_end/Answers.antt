@@ -1,12 +1,9 @@
 use Rattle.std.proofs.Common.{ℕ, List, length, ◌∙◌, sym, ap, arith}
-use Rattle.std.specs.List.{list_any}
 use Rattle.pe_view.specs.Number.{num, byte_of}
-use Rattle.pe_head.specs.declared.section.SectionHeader.{SectionHeader}
 use Rattle.coff_read.specs.ImageNames.{image_strings}
-use Rattle.coff_read.specs.Names.{begins_with_slash}
 use Rattle.pe_reach.proofs.SectionNames.{short_names, names_without, names_long, names_held}
 use Rattle.pe_reach.proofs.names.names_end.Goals as goal
-use Rattle.pe_reach.proofs.names.names_end.Goals.{then-headers-eq0-via-then-headers-eq0, then-headers-eq0-via-else-headers-eq0+then-not-has_long_name}
+use Rattle.pe_reach.proofs.names.names_end.Goals.{then-headers-eq0-via-then-headers-eq0, then-headers-eq0-via-else-headers-eq0+then-not-has_names}
 
 pub returns-then-headers-eq0-clause-enough : goal.returns-then-headers-eq0-clause-enough
 returns-then-headers-eq0-clause-enough c =
@@ -14,9 +11,9 @@ returns-then-headers-eq0-clause-enough c =
     let bytes = c.args.begin.now in
     elim c.then-headers-eq0.branch [
       | then-headers-eq0-via-then-headers-eq0 w ↦ λ reach file b. names_without c.args.len bytes file c.requires b h w.if-headers-eq0.true
-      | then-headers-eq0-via-else-headers-eq0+then-not-has_long_name w ↦
+      | then-headers-eq0-via-else-headers-eq0+then-not-has_names w ↦
           λ reach file b. short_names (image_strings file h) (image_strings bytes h) h.sections.items
-          (ap (λ (sections : List SectionHeader). list_any (λ (section : SectionHeader). begins_with_slash section.name) sections) (sym w.as_slice.ensures.value) ∙ sym w.has_long_name.ensures ∙ w.if-not-has_long_name.true)
+          (w.has_names.ensures w.if-not-has_names.true)
     ]
 
 pub returns-then-end-len-clause-enough : goal.returns-then-end-len-clause-enough

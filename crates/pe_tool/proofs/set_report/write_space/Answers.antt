@@ -6,7 +6,8 @@ use Rattle.pe_space.specs.Content.{Content, byte_at, placement_of}
 use Rattle.pe_space.specs.SetContent.{content_of, defined_byte}
 use Rattle.pe_tool.specs.MapReport.{export_address, map_text}
 use Rattle.pe_text.proofs.Adding.{◌then◌}
-use Rattle.pe_tool.proofs.Mapped.{placements_kept, bindings_kept, placed_kept, few_entries, images_told, exports_low, inside, ends, same_lines}
+use Rattle.pe_space_file.proofs.Placed.{placements_kept, bindings_kept, placed_kept}
+use Rattle.pe_tool.proofs.Mapped.{few_entries, images_told, exports_low, inside, ends, same_lines}
 use Rattle.pe_tool.proofs.set_report.write_space.Goals as goal
 use Rattle.pe_tool.proofs.set_report.write_space.Goals.{in-Some, in_default}
 

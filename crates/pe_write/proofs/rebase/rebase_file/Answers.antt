@@ -31,62 +31,26 @@ returns-in_err-fixups-clause-exact g c =
     let p = err_from_is_err_and c.from_residual-in_err-fixups.result c.from_residual-in_err-fixups.ensures.1 in
     rw (p.1, p.2) (refused_tables file c.args.base laid.0 error (subst (λ (i : LaidOut). Refuses (relocation_tests i) error) laid.1.shows c.in_err-fixups.ensures.exact))
 
-pub returns-in_err-check_base-clause-exact : goal.returns-in_err-check_base-clause-exact
-returns-in_err-check_base-clause-exact g c =
-    let file = c.args.file.now in
-    let laid = c.in_ok-layout.ensures in
-    let read = subst (λ (i : LaidOut). first_standing (relocation_tests i) ≡ None) laid.1.shows c.in_ok-fixups.ensures.exact.0 in
-    let found = sym (same_base file c.args.base c.in_ok-layout.layout laid.1) ∙ c.in_err-check_base.ensures in
-    let p = err_from_is_err_and c.from_residual-in_err-check_base.result c.from_residual-in_err-check_base.ensures.1 in
-    rw (p.1, p.2) (refused_base file c.args.base laid.0 read c.in_err-check_base.field-0.0 found)
+pub rebase_image-requires-clause-laid : goal.rebase_image-requires-clause-laid
+rebase_image-requires-clause-laid g c = c.in_ok-layout.ensures.0
 
-pub rewrite-requires-clause-laid : goal.rewrite-requires-clause-laid
-rewrite-requires-clause-laid g c =
-    let laws : Laws = record { behind = c.sections_are_apart.ensures.behind; apart = c.sections_are_apart.ensures.apart; held = c.sections_are_apart.ensures.held; fields = c.fields_are_apart.ensures.apart } in
-    let laid = c.in_ok-layout.ensures in
-    let len : length c.deref_mut.result.now ≡ length c.args.file.now = ap length (c.deref_mut.ensures.value ∙ c.in_ok-bytes.ensures.items) in
-    rw (laid.1.headers, len) (laid_of laws c.args.file.now laid.0)
+pub rebase_image-requires-clause-shows : goal.rebase_image-requires-clause-shows
+rebase_image-requires-clause-shows g c = c.in_ok-layout.ensures.1
 
-pub rewrite-requires-clause-inside : goal.rewrite-requires-clause-inside
-rewrite-requires-clause-inside g c =
-    let laid = c.in_ok-layout.ensures in
-    let len : length c.deref_mut.result.now ≡ length c.args.file.now = ap length (c.deref_mut.ensures.value ∙ c.in_ok-bytes.ensures.items) in
-    rw (laid.1.headers, len) (own_fields c.args.file.now laid.0)
+pub rebase_image-requires-clause-sound : goal.rebase_image-requires-clause-sound
+rebase_image-requires-clause-sound g c = subst (λ (i : LaidOut). first_standing (relocation_tests i) ≡ None) c.in_ok-layout.ensures.1.shows c.in_ok-fixups.ensures.exact.0
 
-pub returns-in_err-rewrite-clause-exact : goal.returns-in_err-rewrite-clause-exact
-returns-in_err-rewrite-clause-exact g c =
-    let file = c.args.file.now in
-    let laid = c.in_ok-layout.ensures in
-    let read = subst (λ (i : LaidOut). first_standing (relocation_tests i) ≡ None) laid.1.shows c.in_ok-fixups.ensures.exact.0 in
-    let based = sym (same_base file c.args.base c.in_ok-layout.layout laid.1) ∙ c.in_ok-check_base.ensures.0 in
-    let fixups : c.deref.result.now ≡ fixups_of (image_of_file 0 file) = c.deref.ensures.value ∙ c.in_ok-fixups.ensures.exact.1 ∙ ap fixups_of laid.1.shows in
-    let found = sym (same_data file c.in_ok-layout.layout c.deref.result.now laid.1 fixups) ∙ c.in_err-rewrite.ensures in
-    let p = err_from_is_err_and c.from_residual-in_err-rewrite.result c.from_residual-in_err-rewrite.ensures.1 in
-    rw (p.1, p.2) (all_but_data file c.args.base laid.0 read based ∙ found)
+pub rebase_image-requires-clause-read : goal.rebase_image-requires-clause-read
+rebase_image-requires-clause-read g c = c.deref.ensures.value ∙ c.in_ok-fixups.ensures.exact.1 ∙ ap fixups_of c.in_ok-layout.ensures.1.shows
 
-pub returns-clause-exact : goal.returns-clause-exact
-unfolding rebased
-returns-clause-exact g c =
-    let laws : Laws = record { behind = c.sections_are_apart.ensures.behind; apart = c.sections_are_apart.ensures.apart; held = c.sections_are_apart.ensures.held; fields = c.fields_are_apart.ensures.apart } in
-    let file = c.args.file.now in
-    let base = c.args.base in
-    let laid = c.in_ok-layout.ensures in
-    let read = subst (λ (i : LaidOut). first_standing (relocation_tests i) ≡ None) laid.1.shows c.in_ok-fixups.ensures.exact.0 in
-    let based = sym (same_base file c.args.base c.in_ok-layout.layout laid.1) ∙ c.in_ok-check_base.ensures.0 in
-    let fixups : c.deref.result.now ≡ fixups_of (image_of_file 0 file) = c.deref.ensures.value ∙ c.in_ok-fixups.ensures.exact.1 ∙ ap fixups_of laid.1.shows in
-    let found = sym (same_data file c.in_ok-layout.layout c.deref.result.now laid.1 fixups) ∙ c.in_ok-rewrite.ensures.0 in
-    let none = all_but_data file base laid.0 read based ∙ found in
-    let copied = c.deref_mut.ensures.value ∙ c.in_ok-bytes.ensures.items in
-    let written : c.rewrite.new.bytes ≡ moved_all (head_of file) (pos base -ℤ pos (head_of file).image_base) (fixups_of (image_of_file 0 file)) (put_header (head_of file) base file) =
-    c.in_ok-rewrite.ensures.1
-    ∙ ap (λ (bs : List ℕ). moved_all (headers_of c.in_ok-layout.layout) (pos base -ℤ pos (headers_of c.in_ok-layout.layout).image_base) c.deref.result.now (put_header (headers_of c.in_ok-layout.layout) base bs)) copied
-    ∙ ap (λ (fs : List Fixup). moved_all (headers_of c.in_ok-layout.layout) (pos base -ℤ pos (headers_of c.in_ok-layout.layout).image_base) fs (put_header (headers_of c.in_ok-layout.layout) base file)) fixups
-    ∙ ap (λ (h : Headers). moved_all h (pos base -ℤ pos h.image_base) (fixups_of (image_of_file 0 file)) (put_header h base file)) laid.1.headers in
-    (none, take_at c.rewrite.new.bytes _ c.in_ok-bytes.bytes.len (c.rewrite.auto.bytes ∙ c.deref_mut.ensures.len) ∙ written)
+pub returns-in_err-bytes-clause-exact : goal.returns-in_err-bytes-clause-exact
+returns-in_err-bytes-clause-exact g c =
+    let p = err_from_is_err_and c.from_residual-in_err-bytes.result c.from_residual-in_err-bytes.ensures.1 in
+    rw (p.1, p.2) c.in_err-bytes.ensures
 
 pub returns-clause-bytes : goal.returns-clause-bytes
 returns-clause-bytes g c =
     let laws : Laws = record { behind = c.sections_are_apart.ensures.behind; apart = c.sections_are_apart.ensures.apart; held = c.sections_are_apart.ensures.held; fields = c.fields_are_apart.ensures.apart } in
-    let exact = returns-clause-exact g c in
+    let exact = c.in_ok-bytes.ensures in
     let n = sound laws c.args.file.now c.args.base exact.0 in
     subst (IsRebased c.args.file.now c.args.base) (sym (exact.1 ∙ made c.args.file.now c.args.base n)) (in_words c.args.file.now c.args.base n)

@@ -31,9 +31,9 @@ returns-in-Ok-table_findings c =
     let between = c.as_slice-between.ensures.value ∙ found.between ∙ ap delay_and_resource_findings laid.1.shows in
     let others_are = record_and_symbol_findings file (head_of file) (image_of_file 0 file) in
     let between_are = delay_and_resource_findings (image_of_file 0 file) in
-    let own = ap (λ (bytes : List ℕ). trust_findings_of bytes c.headers.result.now) c.new-view.ensures ∙ ap (trust_findings_of file) (c.headers.ensures ∙ laid.1.headers) in
-    let all = ap (λ (faults : List Fault). with_between faults c.as_slice-between.result.now (trust_findings_of (bytes_of c.new-view.result) c.headers.result.now)) others
-    ∙ ap (λ (faults : List Fault). with_between others_are faults (trust_findings_of (bytes_of c.new-view.result) c.headers.result.now)) between
+    let own = ap (λ (bytes : List ℕ). trust_findings_of bytes c.headers.result) c.new-view.ensures ∙ ap (trust_findings_of file) (c.headers.ensures ∙ laid.1.headers) in
+    let all = ap (λ (faults : List Fault). with_between faults c.as_slice-between.result.now (trust_findings_of (bytes_of c.new-view.result) c.headers.result)) others
+    ∙ ap (λ (faults : List Fault). with_between others_are faults (trust_findings_of (bytes_of c.new-view.result) c.headers.result)) between
     ∙ ap (with_between others_are between_are) own in
     let told = c.tell_all_findings in
     table_accepted _ _ (λ r. r) fault_record _ _ _ _ _ _ _ laid.0

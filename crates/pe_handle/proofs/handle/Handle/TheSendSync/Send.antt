@@ -7,7 +7,7 @@ use denote.Builtin.{RawPtr, bool}
 use denote.RattleType.{RattleType}
 use denote.Memory.{lone}
 use denote.RawPtr.{Ptr, block_ptr, null_ptr, lies_at}
-use denote.Param.Send.{IsSend, IsSync, AllSend, AllSync, struct_sync, part_keyless, owning_send, struct_send, sendable}
+use denote.Param.Send.{IsSend, IsSync, AllSend, AllSync, struct_sync, part_keyless, owning_send, sendable}
 use denote.Struct.Declared as declared
 use denote.Struct.Owning.{fields}
 use denote.Signature.{static_lft}
@@ -18,9 +18,12 @@ use Rattle.std.specs.contracts.impls.GlobalAllocator.TheImpl.{ghosts}
 use Rattle.std.proofs.alloc.Global.TheSendSync as global_send
 use Rattle.std.proofs.Crossing.{crosses, frees}
 use Rattle.pe_head.specs.contracts.headers.Headers as headers
+use Rattle.pe_head.specs.contracts.fields.Fields as header_fields
+use Rattle.pe_head.specs.contracts.checked.CheckedHeaders as checked
 use Rattle.pe_head.specs.contracts.section.SectionHeader as section
 use Rattle.pe_head.specs.contracts.directory.Directory as directory
 use Rattle.pe_view.specs.contracts.view.View as view
+use Rattle.pe_layout.specs.contracts.header_source.HeaderSource as source
 use Rattle.pe_layout.specs.contracts.layout.Layout as layout
 use Rattle.pe_space.specs.contracts.file_image.FileImage as file_image
 use Rattle.pe_space.specs.contracts.file_space.FileSpace as file_space
@@ -37,22 +40,31 @@ lies_keyless : (R : RattleType) → IsSend R → (p : Ptr) (x : R.Denot) → Key
 lies_keyless R s (block_ptr b o) x = part_keyless R s full_share x b o
 lies_keyless R s null_ptr x = tt
 
-section_send : IsSend (section.the_field).row
-section_send = search (crosses, sendable) depth 60 fits 20000
-
-directory_send : IsSend (directory.the_field).row
-directory_send = search (crosses, sendable) depth 60 fits 20000
-
 bytes_send : IsSend (view.the_field static_lft).row
 bytes_send = search (crosses, sendable) depth 60 fits 20000
 
-headers_send : IsSend (headers.the_field).row
-headers_send =
-    let all : AllSend (declared.fields headers.the_type) = (search sendable depth 20, (search sendable depth 20, (search sendable depth 20, (search sendable depth 20, (search sendable depth 20, (search sendable depth 20, (search sendable depth 20, (search sendable depth 20, (search sendable depth 20, (search sendable depth 20, (search sendable depth 20, (search sendable depth 20, (search sendable depth 20, (search sendable depth 20, (search sendable depth 20, (search sendable depth 20, (search sendable depth 20, (search sendable depth 20, (search sendable depth 20, (search sendable depth 20, (search sendable depth 20, (search sendable depth 20, (search sendable depth 20, (search sendable depth 20, (search sendable depth 20, (search sendable depth 20, (search sendable depth 20, (search sendable depth 20, (search sendable depth 20, (search sendable depth 20, (search sendable depth 20, (search sendable depth 20, (search sendable depth 20, (search sendable depth 20, (search sendable depth 20, (search sendable depth 20, (search sendable depth 20, (search sendable depth 20, (search (directory_send, sendable) depth 40, (search (section_send, sendable) depth 40, (tt))))))))))))))))))))))))))))))))))))))))) in
-    struct_send (declared.shape headers.the_type) all
+section_sync : IsSync (section.the_field).row
+section_sync = search (crosses, sendable) depth 60 fits 20000
+
+directory_sync : IsSync (directory.the_field).row
+directory_sync = search (crosses, sendable) depth 60 fits 20000
+
+headers_sync : IsSync (headers.the_field).row
+headers_sync =
+    let all : AllSync (declared.fields headers.the_type) = (search sendable depth 20, (search sendable depth 20, (search sendable depth 20, (search sendable depth 20, (search sendable depth 20, (search sendable depth 20, (search sendable depth 20, (search sendable depth 20, (search sendable depth 20, (search sendable depth 20, (search sendable depth 20, (search sendable depth 20, (search sendable depth 20, (search sendable depth 20, (search sendable depth 20, (search sendable depth 20, (search sendable depth 20, (search sendable depth 20, (search sendable depth 20, (search sendable depth 20, (search sendable depth 20, (search sendable depth 20, (search sendable depth 20, (search sendable depth 20, (search sendable depth 20, (search sendable depth 20, (search sendable depth 20, (search sendable depth 20, (search sendable depth 20, (search sendable depth 20, (search sendable depth 20, (search sendable depth 20, (search sendable depth 20, (search sendable depth 20, (search sendable depth 20, (search sendable depth 20, (search sendable depth 20, (search sendable depth 20, (search (directory_sync, sendable) depth 40, (search (section_sync, sendable) depth 40, (tt))))))))))))))))))))))))))))))))))))))))) in
+    struct_sync (declared.shape headers.the_type) all
+
+fields_send : IsSend (header_fields.the_field static_lft).row
+fields_send = search (bytes_send, crosses, sendable) depth 60 fits 20000
+
+checked_send : IsSend (checked.the_field static_lft).row
+checked_send = search (fields_send, crosses, sendable) depth 60 fits 20000
+
+source_send : IsSend (source.the_field static_lft).row
+source_send = search (checked_send, headers_sync, crosses, sendable) depth 60 fits 20000
 
 layout_send : IsSend (layout.the_field static_lft).row
-layout_send = search (bytes_send, headers_send, crosses, sendable) depth 60 fits 20000
+layout_send = search (bytes_send, source_send, crosses, sendable) depth 60 fits 20000
 
 file_image_send : IsSend (file_image.the_field static_lft global.the_row ghosts).row
 file_image_send = search (layout_send, crosses, sendable) depth 60 fits 20000
@@ -72,22 +84,20 @@ storage_send = search (mapped_space_send, file_space_send, crosses, sendable) de
 any_space_send : IsSend (any_space.the_row static_lft)
 any_space_send = search (storage_send, crosses, sendable) depth 60 fits 20000
 
-section_sync : IsSync (section.the_field).row
-section_sync = search (crosses, sendable) depth 60 fits 20000
-
-directory_sync : IsSync (directory.the_field).row
-directory_sync = search (crosses, sendable) depth 60 fits 20000
-
 bytes_sync : IsSync (view.the_field static_lft).row
 bytes_sync = search (crosses, sendable) depth 60 fits 20000
 
-headers_sync : IsSync (headers.the_field).row
-headers_sync =
-    let all : AllSync (declared.fields headers.the_type) = (search sendable depth 20, (search sendable depth 20, (search sendable depth 20, (search sendable depth 20, (search sendable depth 20, (search sendable depth 20, (search sendable depth 20, (search sendable depth 20, (search sendable depth 20, (search sendable depth 20, (search sendable depth 20, (search sendable depth 20, (search sendable depth 20, (search sendable depth 20, (search sendable depth 20, (search sendable depth 20, (search sendable depth 20, (search sendable depth 20, (search sendable depth 20, (search sendable depth 20, (search sendable depth 20, (search sendable depth 20, (search sendable depth 20, (search sendable depth 20, (search sendable depth 20, (search sendable depth 20, (search sendable depth 20, (search sendable depth 20, (search sendable depth 20, (search sendable depth 20, (search sendable depth 20, (search sendable depth 20, (search sendable depth 20, (search sendable depth 20, (search sendable depth 20, (search sendable depth 20, (search sendable depth 20, (search sendable depth 20, (search (directory_sync, sendable) depth 40, (search (section_sync, sendable) depth 40, (tt))))))))))))))))))))))))))))))))))))))))) in
-    struct_sync (declared.shape headers.the_type) all
+fields_sync : IsSync (header_fields.the_field static_lft).row
+fields_sync = search (bytes_sync, crosses, sendable) depth 60 fits 20000
+
+checked_sync : IsSync (checked.the_field static_lft).row
+checked_sync = search (fields_sync, crosses, sendable) depth 60 fits 20000
+
+source_sync : IsSync (source.the_field static_lft).row
+source_sync = search (checked_sync, headers_sync, crosses, sendable) depth 60 fits 20000
 
 layout_sync : IsSync (layout.the_field static_lft).row
-layout_sync = search (bytes_sync, headers_sync, crosses, sendable) depth 60 fits 20000
+layout_sync = search (bytes_sync, source_sync, crosses, sendable) depth 60 fits 20000
 
 file_image_sync : IsSync (file_image.the_field static_lft global.the_row ghosts).row
 file_image_sync = search (layout_sync, crosses, sendable) depth 60 fits 20000

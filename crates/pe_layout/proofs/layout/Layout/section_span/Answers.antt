@@ -3,9 +3,9 @@ use Rattle.std.proofs.Common.{◌≡◌, ◌∙◌, ◌+◌, ◌-◌, ap, sym, a
 use Rattle.pe_view.specs.Number.{part}
 use Rattle.pe_view.specs.Text.{text_between}
 use Rattle.pe_head.specs.Section.{extent, rawlen}
-use Rattle.pe_layout.specs.Layout.{file_of}
+use Rattle.pe_layout.specs.Layout.{headers_of, file_of}
 use Rattle.pe_layout.proofs.Parts.{with_zeros}
-use Rattle.pe_layout.proofs.Texts.{raw_text, or_zeros, rest_of-raw}
+use Rattle.pe_layout.proofs.Texts.{raw_text, zero_text, empty_text, or_zeros, rest_of-raw, rest_of-zeros}
 use Rattle.pe_layout.proofs.layout.Layout.section_span.Goals as goal
 
 pub returns-in-Raw-clause-text : goal.returns-in-Raw-clause-text
@@ -25,4 +25,10 @@ returns-in-Raw-clause-text c =
     let text = text_between file o (o + m) in
     rw (end, len, more)
     (or_zeros text (part file o (o + m - o)) (rawlen s) (extent s) ∙ ap (λ (n : ℕ). with_zeros text (part file o n) (extent s - rawlen s)) left
-    ∙ sym (raw_text c.args.self.now.headers file s c.args.rva c.requires.behind c.requires.found o m (extent s - rawlen s) raw.0 raw.1 raw.2 refl))
+    ∙ sym (raw_text (headers_of c.args.self.now) file s c.args.rva c.requires.behind c.requires.found o m (extent s - rawlen s) raw.0 raw.1 raw.2 refl))
+
+pub returns-in-Zeros-clause-text : goal.returns-in-Zeros-clause-text
+returns-in-Zeros-clause-text c =
+    let l = c.args.self.now in
+    let s = c.args.section.now in
+    empty_text (file_of l) ∙ sym (zero_text (headers_of l) (file_of l) s c.args.rva c.requires.behind c.requires.found (rest_of-zeros s c.args.rva _ c.in-Zeros.ensures))

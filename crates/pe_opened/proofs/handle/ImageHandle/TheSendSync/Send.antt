@@ -20,10 +20,13 @@ use denote.Signature.{static_lft}
 use Rattle.std.specs.contracts.alloc.Global as global
 use Rattle.std.specs.contracts.impls.GlobalAllocator.TheImpl.{ghosts}
 use Rattle.pe_head.specs.contracts.headers.Headers as headers
+use Rattle.pe_head.specs.contracts.fields.Fields as header_fields
+use Rattle.pe_head.specs.contracts.checked.CheckedHeaders as checked
 use Rattle.pe_head.specs.contracts.section.SectionHeader as section
 use Rattle.pe_head.specs.contracts.directory.Directory as directory
 use Rattle.pe_view.specs.contracts.view.View as view
 use Rattle.pe_tables.specs.contracts.key.Target as target
+use Rattle.pe_layout.specs.contracts.header_source.HeaderSource as source
 use Rattle.pe_layout.specs.contracts.layout.Layout as layout
 use Rattle.pe_tables.specs.contracts.export_lookup.Exports as exports
 use Rattle.pe_tables.specs.contracts.name_index.NameIndex as name_index
@@ -40,22 +43,31 @@ lies_keyless : (R : RattleType) → IsSend R → (p : Ptr) (x : R.Denot) → Key
 lies_keyless R s (block_ptr b o) x = part_keyless R s full_share x b o
 lies_keyless R s null_ptr x = tt
 
-section_send : IsSend (section.the_field).row
-section_send = search (crosses, sendable) depth 60 fits 20000
-
-directory_send : IsSend (directory.the_field).row
-directory_send = search (crosses, sendable) depth 60 fits 20000
-
 bytes_send : IsSend (view.the_field static_lft).row
 bytes_send = search (crosses, sendable) depth 60 fits 20000
 
-headers_send : IsSend (headers.the_field).row
-headers_send =
-    let all : AllSend (declared.fields headers.the_type) = (search sendable depth 20, (search sendable depth 20, (search sendable depth 20, (search sendable depth 20, (search sendable depth 20, (search sendable depth 20, (search sendable depth 20, (search sendable depth 20, (search sendable depth 20, (search sendable depth 20, (search sendable depth 20, (search sendable depth 20, (search sendable depth 20, (search sendable depth 20, (search sendable depth 20, (search sendable depth 20, (search sendable depth 20, (search sendable depth 20, (search sendable depth 20, (search sendable depth 20, (search sendable depth 20, (search sendable depth 20, (search sendable depth 20, (search sendable depth 20, (search sendable depth 20, (search sendable depth 20, (search sendable depth 20, (search sendable depth 20, (search sendable depth 20, (search sendable depth 20, (search sendable depth 20, (search sendable depth 20, (search sendable depth 20, (search sendable depth 20, (search sendable depth 20, (search sendable depth 20, (search sendable depth 20, (search sendable depth 20, (search (directory_send, sendable) depth 40, (search (section_send, sendable) depth 40, (tt))))))))))))))))))))))))))))))))))))))))) in
-    struct_send (declared.shape headers.the_type) all
+section_sync : IsSync (section.the_field).row
+section_sync = search (crosses, sendable) depth 60 fits 20000
+
+directory_sync : IsSync (directory.the_field).row
+directory_sync = search (crosses, sendable) depth 60 fits 20000
+
+headers_sync : IsSync (headers.the_field).row
+headers_sync =
+    let all : AllSync (declared.fields headers.the_type) = (search sendable depth 20, (search sendable depth 20, (search sendable depth 20, (search sendable depth 20, (search sendable depth 20, (search sendable depth 20, (search sendable depth 20, (search sendable depth 20, (search sendable depth 20, (search sendable depth 20, (search sendable depth 20, (search sendable depth 20, (search sendable depth 20, (search sendable depth 20, (search sendable depth 20, (search sendable depth 20, (search sendable depth 20, (search sendable depth 20, (search sendable depth 20, (search sendable depth 20, (search sendable depth 20, (search sendable depth 20, (search sendable depth 20, (search sendable depth 20, (search sendable depth 20, (search sendable depth 20, (search sendable depth 20, (search sendable depth 20, (search sendable depth 20, (search sendable depth 20, (search sendable depth 20, (search sendable depth 20, (search sendable depth 20, (search sendable depth 20, (search sendable depth 20, (search sendable depth 20, (search sendable depth 20, (search sendable depth 20, (search (directory_sync, sendable) depth 40, (search (section_sync, sendable) depth 40, (tt))))))))))))))))))))))))))))))))))))))))) in
+    struct_sync (declared.shape headers.the_type) all
+
+fields_send : IsSend (header_fields.the_field static_lft).row
+fields_send = search (bytes_send, crosses, sendable) depth 60 fits 20000
+
+checked_send : IsSend (checked.the_field static_lft).row
+checked_send = search (fields_send, crosses, sendable) depth 60 fits 20000
+
+source_send : IsSend (source.the_field static_lft).row
+source_send = search (checked_send, headers_sync, crosses, sendable) depth 60 fits 20000
 
 layout_send : IsSend (layout.the_field static_lft).row
-layout_send = search (bytes_send, headers_send, crosses, sendable) depth 60 fits 20000
+layout_send = search (bytes_send, source_send, crosses, sendable) depth 60 fits 20000
 
 target_send : IsSend (target.the_field static_lft).row
 target_send = search (crosses, sendable) depth 60 fits 20000
@@ -86,22 +98,20 @@ exports_send = search (target_send, names_send, guesses_send, crosses, sendable)
 whole_send : IsSend (image.the_field static_lft global.the_row ghosts).row
 whole_send = search (layout_send, exports_send, crosses, sendable) depth 60 fits 20000
 
-section_sync : IsSync (section.the_field).row
-section_sync = search (crosses, sendable) depth 60 fits 20000
-
-directory_sync : IsSync (directory.the_field).row
-directory_sync = search (crosses, sendable) depth 60 fits 20000
-
 bytes_sync : IsSync (view.the_field static_lft).row
 bytes_sync = search (crosses, sendable) depth 60 fits 20000
 
-headers_sync : IsSync (headers.the_field).row
-headers_sync =
-    let all : AllSync (declared.fields headers.the_type) = (search sendable depth 20, (search sendable depth 20, (search sendable depth 20, (search sendable depth 20, (search sendable depth 20, (search sendable depth 20, (search sendable depth 20, (search sendable depth 20, (search sendable depth 20, (search sendable depth 20, (search sendable depth 20, (search sendable depth 20, (search sendable depth 20, (search sendable depth 20, (search sendable depth 20, (search sendable depth 20, (search sendable depth 20, (search sendable depth 20, (search sendable depth 20, (search sendable depth 20, (search sendable depth 20, (search sendable depth 20, (search sendable depth 20, (search sendable depth 20, (search sendable depth 20, (search sendable depth 20, (search sendable depth 20, (search sendable depth 20, (search sendable depth 20, (search sendable depth 20, (search sendable depth 20, (search sendable depth 20, (search sendable depth 20, (search sendable depth 20, (search sendable depth 20, (search sendable depth 20, (search sendable depth 20, (search sendable depth 20, (search (directory_sync, sendable) depth 40, (search (section_sync, sendable) depth 40, (tt))))))))))))))))))))))))))))))))))))))))) in
-    struct_sync (declared.shape headers.the_type) all
+fields_sync : IsSync (header_fields.the_field static_lft).row
+fields_sync = search (bytes_sync, crosses, sendable) depth 60 fits 20000
+
+checked_sync : IsSync (checked.the_field static_lft).row
+checked_sync = search (fields_sync, crosses, sendable) depth 60 fits 20000
+
+source_sync : IsSync (source.the_field static_lft).row
+source_sync = search (checked_sync, headers_sync, crosses, sendable) depth 60 fits 20000
 
 layout_sync : IsSync (layout.the_field static_lft).row
-layout_sync = search (bytes_sync, headers_sync, crosses, sendable) depth 60 fits 20000
+layout_sync = search (bytes_sync, source_sync, crosses, sendable) depth 60 fits 20000
 
 target_sync : IsSync (target.the_field static_lft).row
 target_sync = search (crosses, sendable) depth 60 fits 20000

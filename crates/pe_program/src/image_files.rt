@@ -1,0 +1,155 @@
+//! The option `--write` of `map`: each image of a set as a file of a folder.
+
+use crate::messages::{refuse_map, refuse_memory};
+use crate::new_file::{refuse_target, refuse_word};
+use crate::statuses::{DONE, REFUSED};
+use crate::target::Target;
+use crate::word_bytes::{bytes_of, is_marked};
+use pe_tool::{Counted, MapFile, MappedImages, Policy, SetEntry};
+use std::alloc::{AllocError, Allocator};
+use std::fs;
+use std::io::Error;
+use std::path::{Path, PathBuf};
+use std::rt::Files;
+
+/// How many images a set has at most: of more files none is written, since they are refused.
+const MOST_IMAGES: usize = 256;
+
+/// The number of Linux's error for what is no folder: ENOTDIR.
+const NO_FOLDER: i32 = 20;
+
+/// Where the images of a set are written, and how many bytes they may have together.
+#[derive(Clone, Copy)]
+pub(crate) struct ImageFolder<'a> {
+    pub path: &'a str,
+    pub most: u64,
+}
+
+/// The path of the file of an image.
+fn path_of<A: Allocator>(alloc: A, folder: &str, file: &MapFile) -> Result<PathBuf<A>, AllocError> {
+    Path::new(folder).join(alloc, Path::new(file.name.as_str()))
+}
+
+/// Reports why the file of an image cannot be written, and returns the exit status; `None` if it can, as far as is known before.
+fn refuse_file<R: Files + Eprint + Alloc>(rt: &R, files: &[MapFile], target: &str) -> Option<u8> {
+    if !is_marked(target) && fs::metadata(rt, target).is_err() {
+        return None;
+    }
+    let Ok(name) = bytes_of(rt.alloc(), target) else {
+        return Some(refuse_memory(rt));
+    };
+    for file in files {
+        let refusal = refuse_word(rt, &name, file.path.as_str(), target);
+        if refusal.is_some() {
+            return refusal;
+        }
+    }
+    None
+}
+
+/// Reports which file of a folder cannot be written, and returns the exit status; `None` if all can, as far as is known before.
+fn refuse_files<R: Files + Eprint + Alloc>(rt: &R, folder: &str, files: &[MapFile]) -> Option<u8> {
+    for file in files {
+        let Ok(path) = path_of(rt.alloc(), folder, file) else {
+            return Some(refuse_memory(rt));
+        };
+        let refusal = refuse_file(rt, files, path.as_path().as_str());
+        if refusal.is_some() {
+            return refusal;
+        }
+    }
+    None
+}
+
+/// Why there is no folder at a path, if there is none.
+fn folder_error(rt: &impl Files, path: &str) -> Option<Error> {
+    match fs::metadata(rt, path) {
+        Ok(found) if found.is_dir() => None,
+        Ok(_) => Some(Error::from_raw_os_error(NO_FOLDER)),
+        Err(error) => Some(error),
+    }
+}
+
+/// Reports why images cannot be written to a folder, and returns the exit status; `None` if they can, as far as is known before.
+pub(crate) fn refuse_folder<R: Files + Eprint + Alloc>(
+    rt: &R,
+    folder: &str,
+    files: &[MapFile],
+) -> Option<u8> {
+    let files = files.get(..MOST_IMAGES).unwrap_or(files);
+    let refusal = refuse_files(rt, folder, files);
+    if refusal.is_some() {
+        return refusal;
+    }
+    let error = folder_error(rt, folder)?;
+    Some(refuse_target(rt, folder.as_bytes(), error))
+}
+
+/// Writes an image to a file, and returns the exit status.
+fn write_image<R: Files + Print + Eprint + Alloc>(
+    rt: &R,
+    images: &MappedImages<'_, R::A>,
+    number: u16,
+    target: &str,
+) -> u8
+where
+    R::A: Copy,
+{
+    let mut output = Target::new(rt, target);
+    let answer = images.write_image(number, &mut Counted::new(&mut output));
+    match output.finish(answer.is_ok()) {
+        Some(error) => refuse_target(rt, target.as_bytes(), error),
+        None => DONE,
+    }
+}
+
+/// Reports that the images are larger than allowed, and returns the exit status.
+fn tell_size(rt: &impl Eprint, size: u64) -> u8 {
+    let _ = eprintln!(rt;
+        "petool: map: the images have {size} bytes together, more than --within allows"
+    );
+    REFUSED
+}
+
+/// Writes each image to its file, up to the first that fails, and returns the exit status.
+fn write_each<R: Files + Print + Eprint + Alloc>(
+    rt: &R,
+    folder: &str,
+    images: &MappedImages<'_, R::A>,
+    files: &[MapFile],
+) -> u8
+where
+    R::A: Copy,
+{
+    for (number, file) in (0..images.count()).zip(files) {
+        let Ok(path) = path_of(rt.alloc(), folder, file) else {
+            return refuse_memory(rt);
+        };
+        let status = write_image(rt, images, number, path.as_path().as_str());
+        if status != DONE {
+            return status;
+        }
+    }
+    DONE
+}
+
+/// Writes the images of an accepted set to a folder, unless they have too many bytes together, and returns the exit status.
+pub(crate) fn write_images<R: Files + Print + Eprint + Alloc>(
+    rt: &R,
+    folder: ImageFolder<'_>,
+    policy: Policy,
+    set: &[SetEntry],
+    files: &[MapFile],
+) -> u8
+where
+    R::A: Copy,
+{
+    let Ok(images) = MappedImages::open(rt.alloc(), set, policy) else {
+        return refuse_map(rt);
+    };
+    let size = images.total_size();
+    if size > folder.most {
+        return tell_size(rt, size);
+    }
+    write_each(rt, folder.path, &images, files)
+}

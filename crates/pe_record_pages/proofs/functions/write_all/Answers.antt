@@ -1,0 +1,5 @@
+use Rattle.pe_page.proofs.Adding.{◌and◌}
+use Rattle.pe_record_pages.proofs.functions.write_all.Goals as goal
+
+pub returns : goal.returns
+returns g c = c.write_heading.ensures and c.write_table.ensures

@@ -1,0 +1,9 @@
+use Rattle.pe_text.specs.TextWriter.{IsReady}
+use Rattle.pe_page.specs.Page.{AddsSome}
+use Rattle.pe_record_pages.proofs.unwind.write_operations.Given as goal
+
+abbrev pub invariant-loop-read : goal.invariant-loop-read
+invariant-loop-read g l = record {
+  ready : IsReady g.W.Sink.failures l.text;
+  adds : AddsSome g.W.Sink.taken g.W.Sink.failures l.fn.text l.text;
+}

@@ -1,0 +1,3 @@
+mod Pieces
+pub mod Placed
+mod Sizes

@@ -1,0 +1,4 @@
+pub mod ArmRows
+pub mod Chained
+pub mod Rows
+pub mod Slots

@@ -1,0 +1,9 @@
+pub use Rattle.pe_view.specs.Faults
+pub use Rattle.pe_layout.specs.Image
+pub use Rattle.pe_layout.specs.Layout
+pub mod ArmRecord
+pub mod Chains
+pub mod Information
+pub mod Left
+pub mod OperationNames
+pub mod Operations
