@@ -88,7 +88,7 @@ WORDS = [
     (GUIDE, ", `petool --version` |", " |", f"{GUIDE}: petool has --version, which is not named"),
     (README, "`petool explain [N]`", "`petool show`", f"{README}: petool explain is not named"),
     (README, "`petool show FILE...`", "`petool show [--rows] FILE...`", f"{README}: petool show has no --rows"),
-    (README, "(`--file`) or", "(`--offset`) or", f"{README}: petool at FILE ADDRESS... has no --offset"),
+    (README, "(`--file`), in", "(`--offset`), in", f"{README}: petool at FILE ADDRESS... has no --offset"),
     (MAN, ".B petool explain\n[\\fIN\\fP]\n.br\n", "", f"{MAN}: petool explain is not named"),
     (MAN, "[\\fB\\-\\-window", "[\\fB\\-\\-range", f"{MAN}: petool map has --window HEX, which is not named"),
     (MAN, "\\fIHEX=FILE\\fP...", "\\fIHEX=FILE\\fP", f"{MAN}: petool map takes HEX=FILE..., and not HEX=FILE"),
