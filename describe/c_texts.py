@@ -52,11 +52,24 @@ def _commented(lines: List[str], comments: List[str]) -> List[str]:
     return [f"    {line:<{width}} /* {comment} */" if comment else f"    {line}" for line, comment in zip(lines, comments)]
 
 
+#: The greatest constant that an enum of C has before C23.
+GREATEST = 0x7FFFFFFF
+
+
 def enum(found: Values) -> List[str]:
-    """An enum of petool.h, whose comments begin in one column."""
-    *lines, last = [f"{found.prefix}{it.name} = {it.number}" for it in found.values]
+    """An enum of petool.h, or macros in its place if a value is too large for one. Comments begin in one column."""
     comments = [it.meaning if it.comment is None else it.comment for it in found.values]
+    if any(int(it.number, 0) > GREATEST for it in found.values):
+        return _macros(found, comments)
+    *lines, last = [f"{found.prefix}{it.name} = {it.number}" for it in found.values]
     return ["enum {", *_commented([*(f"{line}," for line in lines), last], comments), "};"]
+
+
+def _macros(found: Values, comments: List[str]) -> List[str]:
+    """The values as macros that are constants of their type."""
+    constant = f"{found.type.replace('u', 'UINT')}_C"
+    lines = [f"#define {found.prefix}{it.name} {constant}({it.number.replace('_', '')})" for it in found.values]
+    return [line.strip() for line in _commented(lines, comments)]
 
 
 def declarations(description: Description, what: str) -> List[str]:

@@ -23,7 +23,8 @@
  *           no call from a signal handler, nor in a forked child of a process with threads before that runs another program.
  * Memory.   A call frees all the memory that it has allocated before it returns, except that of an image or a space, until that is
  *           closed. It calls malloc, realloc and free, which must align to 16 bytes, and returns PETOOL_MEMORY if an allocation
- *           fails; petool_object_sections, petool_object_symbols and petool_object_all_relocations then do without.
+ *           fails; the calls that read sections, symbols or all relocations of an object, and petool_image_symbols, then do
+ *           without.
  *
  * Nothing checks that a caller keeps these rules, but for NULL; what is proved of each call is proved for callers that do. The
  * functions that are defined here are only tested.
@@ -951,6 +952,31 @@ typedef struct petool_object_symbol {
 } petool_object_symbol;
 /* end of describe/records.txt */
 
+/* from describe/records.txt: either_section_numbers */
+#define PETOOL_EITHER_SECTION_UNDEFINED UINT32_C(0)         /* the section number, in 32 bits, of a symbol of another object */
+#define PETOOL_EITHER_SECTION_ABSOLUTE UINT32_C(0xffffffff) /* the section number, in 32 bits, of a symbol whose value is not an address */
+#define PETOOL_EITHER_SECTION_DEBUG UINT32_C(0xfffffffe)    /* the section number, in 32 bits, of a symbol for debuggers */
+/* end of describe/records.txt */
+
+/* from describe/records.txt: either_object_symbol */
+typedef struct petool_either_object_symbol {
+    petool_text name, aux;   /* aux has 18 bytes for each auxiliary record of a plain object, 20 of a big one */
+    uint32_t index;          /* the index of the symbol's record, to which relocations refer */
+    uint32_t value;          /* its meaning depends on the section and the class */
+    uint32_t section_number; /* counted from 1, or a PETOOL_EITHER_SECTION */
+    uint16_t kind;
+    uint8_t class_;          /* the storage class */
+} petool_either_object_symbol;
+/* end of describe/records.txt */
+
+/* from describe/records.txt: big_object_header */
+typedef struct petool_big_object_header {
+    uint16_t version, machine;
+    uint32_t time_date_stamp, size_of_data, flags, meta_data_size, meta_data_offset;
+    uint32_t number_of_sections, pointer_to_symbol_table, number_of_symbols;
+} petool_big_object_header;
+/* end of describe/records.txt */
+
 static inline void petool_object_sections_init(petool_object_section *rows, size_t room)
 {
     petool_text none = PETOOL_NONE;
@@ -965,6 +991,15 @@ static inline void petool_object_symbols_init(petool_object_symbol *rows, size_t
     petool_text none = PETOOL_NONE;
     for (size_t i = 0; i < room; i++) {
         petool_object_symbol row = {none, none, 0, 0, 0, 0, 0};
+        rows[i] = row;
+    }
+}
+
+static inline void petool_either_object_symbols_init(petool_either_object_symbol *rows, size_t room)
+{
+    petool_text none = PETOOL_NONE;
+    for (size_t i = 0; i < room; i++) {
+        petool_either_object_symbol row = {none, none, 0, 0, 0, 0, 0};
         rows[i] = row;
     }
 }
@@ -1005,6 +1040,35 @@ PETOOL_WARN_UNUSED uint32_t petool_object_relocations(const uint8_t *file, size_
 PETOOL_WARN_UNUSED uint32_t petool_object_all_relocations(const uint8_t *file, size_t len, size_t skipped,
                                                           petool_object_relocation *rows, size_t room, size_t *count,
                                                           petool_fault *fault);
+
+/* The calls above refuse a big object (/bigobj), whose section numbers have 32 bits: FAULT, with 62. Those below take objects of
+ * either form: a file that begins with Machine 0 and 0xffff sections is checked as a big object, with 62 at offset 4 if the version
+ * of its header is under 2 and at 12 if its class is another; every other file is checked as petool_object_check does. */
+
+/* OK, and in *big, which must be initialized before, whether it is a big object; or FAULT, with one of 61 to 72. Allocates
+ * nothing. */
+PETOOL_WARN_UNUSED uint32_t petool_either_object_check(const uint8_t *file, size_t len, bool *big, petool_fault *fault);
+
+/* As petool_object_sections, petool_object_relocations and petool_object_all_relocations. */
+PETOOL_WARN_UNUSED uint32_t petool_either_object_sections(const uint8_t *file, size_t len, petool_object_section *rows, size_t room,
+                                                          size_t *count, petool_fault *fault);
+
+PETOOL_WARN_UNUSED uint32_t petool_either_object_relocations(const uint8_t *file, size_t len, size_t section,
+                                                             petool_object_relocation *rows, size_t room, size_t *count,
+                                                             petool_fault *fault);
+
+PETOOL_WARN_UNUSED uint32_t petool_either_object_all_relocations(const uint8_t *file, size_t len, size_t skipped,
+                                                                 petool_object_relocation *rows, size_t room, size_t *count,
+                                                                 petool_fault *fault);
+
+/* As petool_object_symbols, with section numbers of 32 bits in the rows of both forms. */
+PETOOL_WARN_UNUSED uint32_t petool_either_object_symbols(const uint8_t *file, size_t len, petool_either_object_symbol *rows,
+                                                         size_t room, size_t *count, petool_fault *fault);
+
+/* The header of a big object, and as many of its section headers as fit into the rows, as petool_object_headers reads those of a plain
+ * one, which this call refuses: FAULT, with 62 at offset 0. OK; or FAULT, with one of 61 to 72. Allocates nothing. */
+PETOOL_WARN_UNUSED uint32_t petool_big_object_headers(const uint8_t *file, size_t len, petool_big_object_header *header,
+                                                      petool_section_header *sections, size_t room, petool_fault *fault);
 
 /* ---- archives ---- */
 
@@ -1772,6 +1836,82 @@ PETOOL_WARN_UNUSED static inline uint32_t petool_nullable_object_symbols(const u
 }
 #define petool_object_symbols petool_nullable_object_symbols
 
+PETOOL_WARN_UNUSED static inline uint32_t petool_nullable_either_object_check(const uint8_t *file, size_t len, bool *big,
+                                                                              petool_fault *fault)
+{
+    if (PETOOL_IS_LOST(file, len))
+        return PETOOL_ARGUMENT;
+    return petool_either_object_check((const uint8_t *)petool_some(file), len, big, fault);
+}
+#define petool_either_object_check petool_nullable_either_object_check
+
+PETOOL_WARN_UNUSED static inline uint32_t petool_nullable_either_object_sections(const uint8_t *file, size_t len,
+                                                                                 petool_object_section *rows, size_t room,
+                                                                                 size_t *count, petool_fault *fault)
+{
+    if (PETOOL_IS_LOST(file, len))
+        return PETOOL_ARGUMENT;
+    if (PETOOL_IS_LOST(rows, room))
+        return PETOOL_ARGUMENT;
+    return petool_either_object_sections((const uint8_t *)petool_some(file), len, (petool_object_section *)petool_room(rows), room,
+                                         count, fault);
+}
+#define petool_either_object_sections petool_nullable_either_object_sections
+
+PETOOL_WARN_UNUSED static inline uint32_t petool_nullable_either_object_relocations(const uint8_t *file, size_t len, size_t section,
+                                                                                    petool_object_relocation *rows, size_t room,
+                                                                                    size_t *count, petool_fault *fault)
+{
+    if (PETOOL_IS_LOST(file, len))
+        return PETOOL_ARGUMENT;
+    if (PETOOL_IS_LOST(rows, room))
+        return PETOOL_ARGUMENT;
+    return petool_either_object_relocations((const uint8_t *)petool_some(file), len, section,
+                                            (petool_object_relocation *)petool_room(rows), room, count, fault);
+}
+#define petool_either_object_relocations petool_nullable_either_object_relocations
+
+PETOOL_WARN_UNUSED static inline uint32_t petool_nullable_either_object_all_relocations(const uint8_t *file, size_t len,
+                                                                                        size_t skipped,
+                                                                                        petool_object_relocation *rows, size_t room,
+                                                                                        size_t *count, petool_fault *fault)
+{
+    if (PETOOL_IS_LOST(file, len))
+        return PETOOL_ARGUMENT;
+    if (PETOOL_IS_LOST(rows, room))
+        return PETOOL_ARGUMENT;
+    return petool_either_object_all_relocations((const uint8_t *)petool_some(file), len, skipped,
+                                                (petool_object_relocation *)petool_room(rows), room, count, fault);
+}
+#define petool_either_object_all_relocations petool_nullable_either_object_all_relocations
+
+PETOOL_WARN_UNUSED static inline uint32_t petool_nullable_either_object_symbols(const uint8_t *file, size_t len,
+                                                                                petool_either_object_symbol *rows, size_t room,
+                                                                                size_t *count, petool_fault *fault)
+{
+    if (PETOOL_IS_LOST(file, len))
+        return PETOOL_ARGUMENT;
+    if (PETOOL_IS_LOST(rows, room))
+        return PETOOL_ARGUMENT;
+    return petool_either_object_symbols((const uint8_t *)petool_some(file), len, (petool_either_object_symbol *)petool_room(rows),
+                                        room, count, fault);
+}
+#define petool_either_object_symbols petool_nullable_either_object_symbols
+
+PETOOL_WARN_UNUSED static inline uint32_t petool_nullable_big_object_headers(const uint8_t *file, size_t len,
+                                                                             petool_big_object_header *header,
+                                                                             petool_section_header *sections, size_t room,
+                                                                             petool_fault *fault)
+{
+    if (PETOOL_IS_LOST(file, len))
+        return PETOOL_ARGUMENT;
+    if (PETOOL_IS_LOST(sections, room))
+        return PETOOL_ARGUMENT;
+    return petool_big_object_headers((const uint8_t *)petool_some(file), len, header,
+                                     (petool_section_header *)petool_room(sections), room, fault);
+}
+#define petool_big_object_headers petool_nullable_big_object_headers
+
 PETOOL_WARN_UNUSED static inline uint32_t petool_nullable_archive_check(const uint8_t *file, size_t len, petool_fault *fault)
 {
     if (PETOOL_IS_LOST(file, len))
@@ -2127,6 +2267,25 @@ PETOOL_AT(petool_object_symbol, value, 36);
 PETOOL_AT(petool_object_symbol, section_number, 40);
 PETOOL_AT(petool_object_symbol, kind, 42);
 PETOOL_AT(petool_object_symbol, class_, 44);
+PETOOL_SIZE(petool_big_object_header, 36);
+PETOOL_AT(petool_big_object_header, version, 0);
+PETOOL_AT(petool_big_object_header, machine, 2);
+PETOOL_AT(petool_big_object_header, time_date_stamp, 4);
+PETOOL_AT(petool_big_object_header, size_of_data, 8);
+PETOOL_AT(petool_big_object_header, flags, 12);
+PETOOL_AT(petool_big_object_header, meta_data_size, 16);
+PETOOL_AT(petool_big_object_header, meta_data_offset, 20);
+PETOOL_AT(petool_big_object_header, number_of_sections, 24);
+PETOOL_AT(petool_big_object_header, pointer_to_symbol_table, 28);
+PETOOL_AT(petool_big_object_header, number_of_symbols, 32);
+PETOOL_SIZE(petool_either_object_symbol, 48);
+PETOOL_AT(petool_either_object_symbol, name, 0);
+PETOOL_AT(petool_either_object_symbol, aux, 16);
+PETOOL_AT(petool_either_object_symbol, index, 32);
+PETOOL_AT(petool_either_object_symbol, value, 36);
+PETOOL_AT(petool_either_object_symbol, section_number, 40);
+PETOOL_AT(petool_either_object_symbol, kind, 44);
+PETOOL_AT(petool_either_object_symbol, class_, 46);
 PETOOL_SIZE(petool_archive_member, 120);
 PETOOL_AT(petool_archive_member, name, 0);
 PETOOL_AT(petool_archive_member, bytes, 16);

@@ -67,7 +67,7 @@ class Bash(unittest.TestCase):
         self.assert_offered(["10000000=b=2.dll"], ["map", "10000000=b=2"])
 
     def test_options_are_those_of_the_command(self):
-        self.assert_offered(["--count", "--help", "--known", "--unbound", "--window", "--within", "--write"], ["map", "--"], ["map", "10000000=a.dll", "--"])
+        self.assert_offered(["--count", "--delayed", "--help", "--known", "--unbound", "--window", "--within", "--write"], ["map", "--"], ["map", "10000000=a.dll", "--"])
         self.assert_offered(["--help", "-h"], ["explain", "-"], ["check", "a.dll", "-"])
         self.assert_offered(["--all", "--functions", "--help", "--most", "--no-digest", "--symbols"], ["json", "--"], ["json", "--most", "4K", "--"])
         self.assert_offered(["--imports"], ["show", "--i"])

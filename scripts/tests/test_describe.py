@@ -8,7 +8,7 @@ import tempfile
 import unittest
 
 TOP = pathlib.Path(__file__).resolve().parents[2]
-CRATES = ("pe_records_c", "pe_tables_c", "pe_trust_c", "pe_resources_c", "coff_archive_c", "pe_handle", "pe_opened", "petool_c", "pe_json", "coff_archive_json", "coff_library")
+CRATES = ("pe_records_c", "pe_tables_c", "pe_trust_c", "pe_resources_c", "coff_object_c", "coff_archive_c", "pe_handle", "pe_opened", "petool_c", "pe_json", "coff_archive_json", "coff_library")
 #: The crates that test faults or have a table of them.
 FAULT_CRATES = (
     "pe_text",
@@ -90,6 +90,8 @@ VALUES_WRITTEN = [
     ("bindings/c/petool.h", "PETOOL_PLACE_RVA = 1,     /* bytes of", "PETOOL_PLACE_RVAS = 1,    /* bytes of"),
     ("bindings/c/petool.h", "PETOOL_TARGET_NAME = 2 ", "PETOOL_TARGET_NAME = 3 "),
     ("bindings/c/petool.h", "ABSOLUTE = 0xffff,", "ABSOLUTE = 0xfffe,"),
+    ("bindings/c/petool.h", "ABSOLUTE UINT32_C(0xffffffff)", "ABSOLUTE UINT32_C(0xfffffffe)"),
+    ("bindings/c/petool.h", "DEBUG UINT32_C(0xfffffffe)", "DEBUG UINT64_C(0xfffffffe)"),
     ("bindings/c/petool.h", "SMALL = 4,    /* too little room", "CLOSED = 4,   /* too little room"),
     ("bindings/c/petool.h", "/* from describe/records.txt: places */\n", ""),
     ("bindings/c/petool.h", "/* from describe/records.txt: places */", "/* from describe/records.txt: targets */"),
@@ -107,6 +109,7 @@ VALUES_WRITTEN = [
     ("bindings/python/petool/_image.py", "_TARGET_NAME = 2 ", "_TARGET_NAME = 1 "),
     ("bindings/python/petool/_image.py", "_TARGET_ORDINAL = 1 ", "_TARGET_NAME = 1 "),
     ("bindings/python/petool/_object.py", "SECTION_DEBUG = 0xFFFE ", "SECTION_DEBUG = 0xFFFF "),
+    ("bindings/python/petool/_object.py", "EITHER_SECTION_DEBUG = 0xFFFF_FFFE ", "EITHER_SECTION_DEBUG = 0xFFFE "),
     ("bindings/python/petool/_object.py", "SECTION_UNDEFINED = 0 ", "SECTION_DEBUG = 0 "),
     ("docs/C.md", "| `PETOOL_SMALL` | 4 |", "| `PETOOL_SMALL` | 3 |"),
     ("docs/C.md", "| `PETOOL_ARGUMENT` | 5 |", "| `PETOOL_CLOSED` | 5 |"),
@@ -173,6 +176,7 @@ VALUES_COMPARED = [
     ("crates/pe_records_c/src/export.rt", "Key::Ordinal(ordinal) => TargetRecord {", "Key::Name(ordinal) => TargetRecord {"),
     ("crates/coff_read/src/symbol.rt", "SymbolSection::Debug => 0xfffe", "SymbolSection::Debug => 0xffff"),
     ("crates/coff_read/src/symbol.rt", "SymbolSection::Undefined =>", "SymbolSection::Debug =>"),
+    ("crates/coff_read/src/big_symbol.rt", "BigSection::Debug => 0xffff_fffe", "BigSection::Debug => 0xfffe"),
 ]
 COMPARED = [
     ("bindings/c/petool.h", "petool_fixup *rows, size_t room", "petool_import *rows, size_t room"),
@@ -186,6 +190,8 @@ COMPARED = [
     ("crates/pe_records_c/src/headers.rt", "pub directories: [DirectoryRow; 16]", "pub directories: [DirectoryRow; 8]"),
     ("crates/pe_records_c/src/text.rt", "pub bytes: &'a [u8]", "pub bytes: u64"),
     ("crates/pe_tables_c/src/pdb.rt", "TWO: u32 = 1;", "TWO: u32 = 2;"),
+    ("crates/coff_object_c/src/symbol.rt", "pub section_number: u32", "pub section_number: u16"),
+    ("crates/petool_c/src/either_object.rt", "big: &mut bool", "big: &mut u32"),
     ("crates/pe_tables_c/src/tls.rt", "pub is_whole: bool", "pub is_whole: u8"),
     ("crates/pe_trust_c/src/signature.rt", "UNKNOWN: u32 = 2;", "UNKNOWN: u32 = 3;"),
     ("crates/pe_trust_c/src/rich.rt", "pub computed: u32", "pub computed: u64"),

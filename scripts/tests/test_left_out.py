@@ -74,7 +74,7 @@ class LeftOut(unittest.TestCase):
         self.assertEqual((status, said.splitlines()[-1], "left out" in said), (0, "12 passed, 0 failed", False), said)
 
     def test_what_may_be_missing_is_run_where_it_is_there(self):
-        status, said = self.run_test("--without", "cargo", "--without", "program")
+        status, said = self.run_test("--without", "cargo,mypy", "--without", "program")
         self.assertEqual((status, said.splitlines()[-1]), (0, "12 passed, 0 failed"), said)
 
     def test_a_program_that_is_not_there(self):
@@ -111,7 +111,7 @@ class LeftOut(unittest.TestCase):
         self.assertEqual(self.run_test("--without", "python3")[0], 2)
 
     def test_a_bad_word_is_told(self):
-        for words in (["--without"], ["--without", ""], ["--without", "awk"], ["cargo"]):
+        for words in (["--without"], ["--without", ""], ["--without", "awk"], ["--without", "cargo,awk"], ["--without", "cargo,"], ["cargo"]):
             with self.subTest(words=words):
                 status, said = self.run_test(*words)
                 self.assertEqual((status, said[:6]), (2, "usage:"), said)

@@ -6,17 +6,9 @@
 
 static bytes v1, v2, v3, va, vb, vc, vr;
 
-/* A fault that no call returns. */
-static const petool_fault UNTOLD = {0x7777, 0x8888, 0x99999999, 0xaaaaaaaaaaaaaaaa};
-
 static int is_fault(petool_fault fault, unsigned number, unsigned place, uint64_t at)
 {
     return fault.number == number && fault.image == 0 && fault.place == place && fault.at == at;
-}
-
-static int is_untold(petool_fault fault)
-{
-    return fault.number == UNTOLD.number && fault.image == UNTOLD.image && fault.place == UNTOLD.place && fault.at == UNTOLD.at;
 }
 
 static void check_judging(void)

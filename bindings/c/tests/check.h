@@ -1,4 +1,4 @@
-/* What the tests of libpetool share: checks that count, files, and the set of three of them. */
+/* What the tests of libpetool share: checks that count, a fault that no call returns, files, and the set of three of them. */
 #ifndef CHECK_H
 #define CHECK_H
 
@@ -33,6 +33,21 @@ static inline int told(void)
 static inline int is_text(petool_text text, const char *bytes, size_t len)
 {
     return text.len == len && memcmp(text.at, bytes, len) == 0;
+}
+
+/* A fault that no call returns. */
+static const petool_fault UNTOLD = {0x7777, 0x8888, 0x99999999, 0xaaaaaaaaaaaaaaaa};
+
+static inline int is_untold(petool_fault fault)
+{
+    return fault.number == UNTOLD.number && fault.image == UNTOLD.image && fault.place == UNTOLD.place && fault.at == UNTOLD.at;
+}
+
+/* Stores a number of four bytes, little-endian. */
+static inline void put_number(uint8_t *at, uint32_t number)
+{
+    for (int k = 0; k < 4; k++)
+        at[k] = (uint8_t)(number >> 8 * k);
 }
 
 typedef struct bytes {

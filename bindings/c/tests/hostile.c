@@ -2,11 +2,11 @@
  * Files that were cut and changed: every prefix of each small file, and each of its bytes with another value. Every call returns,
  * reads no byte outside the file (each prefix is allocated in its exact size), and agrees with the others about the file.
  */
-#include "check.h"
+#include "big.h"
 
 #define ROWS 8
 
-static unsigned long files, faults[100];
+static unsigned long files, faults[100], big_objects;
 
 /* Whether a call on a file may return this status, and if it is PETOOL_FAULT this fault: its number is at most `last`. */
 static int is_answer(uint32_t status, const petool_fault *fault, unsigned last)
@@ -225,6 +225,39 @@ static void ask_spaces(const uint8_t *file, size_t len)
     petool_space_close(&opened);
 }
 
+/* The calls of objects of either form agree on the first fault: that of petool_big_object_headers if the file begins as a big object,
+ * and otherwise that of petool_object_check. */
+static void ask_either(const uint8_t *file, size_t len)
+{
+    petool_object_section sections[ROWS];
+    petool_object_relocation relocations[ROWS];
+    petool_either_object_symbol symbols[ROWS];
+    petool_big_object_header header;
+    petool_fault first = {0, 0, 0, 0}, fault = {0, 0, 0, 0};
+    size_t count = 0;
+    bool is_big = false;
+    uint32_t judged = petool_either_object_check(file, len, &is_big, &first), status;
+    bool is_anonymous = len >= 20 && memcmp(file, "\0\0\xff\xff", 4) == 0;
+    int right = judged == PETOOL_OK ? is_big == is_anonymous : judged == PETOOL_FAULT && first.number >= 61 && first.number <= 72;
+    petool_object_sections_init(sections, ROWS);
+    petool_either_object_symbols_init(symbols, ROWS);
+    status = is_anonymous ? petool_big_object_headers(file, len, &header, NULL, 0, &fault) : petool_object_check(file, len, &fault);
+    right = right && status == judged && memcmp(&fault, &first, sizeof fault) == 0;
+    status = petool_either_object_sections(file, len, sections, ROWS, &count, &fault);
+    right = right && (status == PETOOL_FAULT) == (judged == PETOOL_FAULT) && memcmp(&fault, &first, sizeof fault) == 0;
+    right = right && count <= len / 40;
+    status = petool_either_object_relocations(file, len, 0, relocations, ROWS, &count, &fault);
+    right = right && (status == PETOOL_FAULT) == (judged == PETOOL_FAULT) && memcmp(&fault, &first, sizeof fault) == 0;
+    status = petool_either_object_all_relocations(file, len, 1, relocations, ROWS, &count, &fault);
+    right = right && (status == PETOOL_FAULT) == (judged == PETOOL_FAULT) && memcmp(&fault, &first, sizeof fault) == 0;
+    count = 0;
+    status = petool_either_object_symbols(file, len, symbols, ROWS, &count, &fault);
+    right = right && (status == PETOOL_FAULT) == (judged == PETOOL_FAULT) && memcmp(&fault, &first, sizeof fault) == 0;
+    right = right && count <= len / 18;
+    CHECK(right);
+    big_objects += judged == PETOOL_OK && is_big;
+}
+
 static void ask(const uint8_t *file, size_t len)
 {
     petool_fault first = {0, 0, 0, 0};
@@ -247,16 +280,16 @@ static void ask(const uint8_t *file, size_t len)
     CHECK(judged != PETOOL_FAULT || (first.number >= 16 && first.number <= 22) || memcmp(&fault, &first, sizeof fault) == 0);
     status = petool_object_check(file, len, &fault);
     CHECK(status == PETOOL_OK || (status == PETOOL_FAULT && fault.number >= 61 && fault.number <= 72));
+    ask_either(file, len);
     free(out);
     files++;
     faults[judged == PETOOL_FAULT ? first.number : 0]++;
 }
 
 /* Every prefix of a file, allocated in its exact size, and the file with each byte changed in three ways. */
-static void change(const char *folder, const char *name)
+static void change_all(bytes all)
 {
     static const uint8_t masks[3] = {0xff, 0x01, 0x80};
-    bytes all = file_in(folder, name);
     size_t k, m;
     for (k = 0; k < all.len; k++) {
         uint8_t *cut = (uint8_t *)malloc(k + (k == 0));
@@ -271,6 +304,12 @@ static void change(const char *folder, const char *name)
             all.at[k] ^= masks[m];
         }
     }
+}
+
+static void change(const char *folder, const char *name)
+{
+    bytes all = file_in(folder, name);
+    change_all(all);
     free(all.at);
 }
 
@@ -283,9 +322,10 @@ int main(int argc, char **argv)
     for (k = 0; k < 9; k++)
         change(argv[1], names[k]);
     change(argv[1], "o1.obj");
+    change_all(big_object());
     for (k = 1; k < 100; k++)
         kinds += faults[k] != 0;
     printf("%lu files, %lu of them accepted, with %d different faults\n", files, faults[0], kinds);
-    CHECK(files > 20000 && faults[0] > 1000 && kinds > 25);
+    CHECK(files > 20000 && faults[0] > 1000 && kinds > 25 && big_objects > 100);
     return told();
 }

@@ -3,6 +3,7 @@
  * unchanged, and frees all of its memory; or, if only memory was refused that it can do without, it succeeds. The linker replaces
  * malloc, realloc and free with the functions below.
  */
+#include "big.h"
 #include "section.h"
 
 void *__real_malloc(size_t size);
@@ -166,6 +167,64 @@ static uint32_t write_members(void)
     return status;
 }
 
+/* A big object of two sections, of which the second has a relocation, and of two symbols. The first section and the first symbol have
+ * a name of 700 letters, and the second ones the last 400 of these. Where it ends is remembered, or searched again without memory. */
+static uint8_t long_names[BIG_HEADER_LEN + 2 * 40 + 10 + 2 * BIG_SYMBOL_LEN + 4 + 701];
+
+static void set_long_names(void)
+{
+    static const uint8_t header[BIG_HEADER_LEN] = {BIG_HEADER, 2, 0, 0, 0, 146, 0, 0, 0, 2, 0, 0, 0};
+    uint8_t *sections = long_names + BIG_HEADER_LEN, *symbols = long_names + 146, *strings = symbols + 2 * BIG_SYMBOL_LEN;
+    memcpy(long_names, header, sizeof header);
+    memcpy(sections, "/4", 2), memcpy(sections + 40, "/304", 4);
+    sections[40 + 24] = 136, sections[40 + 32] = 1;
+    long_names[136] = 0x5a;
+    put_number(symbols + 4, 4), put_number(symbols + BIG_SYMBOL_LEN + 4, 304);
+    put_number(strings, 4 + 701);
+    memset(strings + 4, 'a', 700);
+}
+
+static uint32_t read_either_sections(void)
+{
+    petool_object_section rows[2];
+    uint32_t status;
+    petool_object_sections_init(rows, 2);
+    status = petool_either_object_sections(long_names, sizeof long_names, rows, 2, &count, &fault);
+    CHECK(count == 2 && rows[0].name.len == 700 && rows[1].name.len == 400 && rows[1].name.at == rows[0].name.at + 300);
+    return status;
+}
+
+static uint32_t read_either_relocations(void)
+{
+    petool_object_relocation row = {0, 0, 0};
+    uint32_t status = petool_either_object_all_relocations(long_names, sizeof long_names, 0, &row, 1, &count, &fault);
+    CHECK(count == 1 && row.address == 0x5a);
+    return status;
+}
+
+static uint32_t read_either_symbols(void)
+{
+    petool_either_object_symbol rows[2];
+    uint32_t status;
+    petool_either_object_symbols_init(rows, 2);
+    status = petool_either_object_symbols(long_names, sizeof long_names, rows, 2, &count, &fault);
+    CHECK(count == 2 && rows[0].name.len == 700 && rows[1].name.len == 400 && rows[1].index == 1);
+    return status;
+}
+
+/* The other calls of objects of either form allocate nothing. */
+static void check_either(void)
+{
+    petool_big_object_header header;
+    petool_object_relocation row = {0, 0, 0};
+    bool is_big = false;
+    asked = 0;
+    CHECK(petool_either_object_check(long_names, sizeof long_names, &is_big, &fault) == PETOOL_OK && is_big);
+    CHECK(petool_big_object_headers(long_names, sizeof long_names, &header, NULL, 0, &fault) == PETOOL_OK);
+    CHECK(petool_either_object_relocations(long_names, sizeof long_names, 1, &row, 1, &count, &fault) == PETOOL_OK);
+    CHECK(row.address == 0x5a && asked == 0);
+}
+
 static uint32_t find_resources(void)
 {
     petool_fault row = {0, 0, 0, 0};
@@ -290,6 +349,9 @@ static uint32_t find_unbound(void)
 /* The names of vr.dll do not ascend. To sort them takes three vectors; a call that lacks one of these looks each name up instead. */
 enum { SORTING = 3 };
 
+/* So many allocations can fail of a call that can do without each of them: more than it makes. */
+enum { ALL = 1000 };
+
 /* Runs a call with each of its allocations failing in turn, of which it can do without the last few. */
 static void refuse_each(const char *name, uint32_t (*call)(void), long spare)
 {
@@ -376,6 +438,7 @@ int main(int argc, char **argv)
     v3 = with_section(2, 40, 0x14c, LEAF, sizeof LEAF);
     v1.at[0xe9] = 0x10, v1.at[0xec] = 29;
     set_abc(abc, va, vb, vc);
+    set_long_names();
     refuse_each("petool_check", judge_file, 0);
     refuse_each("petool_exports", read_exports, SORTING);
     refuse_each("petool_export_names", read_names, SORTING);
@@ -401,6 +464,10 @@ int main(int argc, char **argv)
     refuse_each("petool_space_open", open_set, 0);
     refuse_each("petool_space_share", share_space, 0);
     refuse_each("petool_unbound", find_unbound, 0);
+    refuse_each("petool_either_object_sections", read_either_sections, ALL);
+    refuse_each("petool_either_object_all_relocations", read_either_relocations, ALL);
+    refuse_each("petool_either_object_symbols", read_either_symbols, ALL);
+    check_either();
     check_opened();
     free(v1.at), free(va.at), free(vb.at), free(vc.at), free(vr.at), free(v2.at), free(v3.at);
     return told();

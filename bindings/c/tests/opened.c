@@ -11,9 +11,6 @@ static const char *const names[9] = {"v1.dll", "v2.dll", "v3.dll", "va.dll", "vb
 static bytes files[9];
 static const bytes *const va = &files[3], *const vb = &files[4], *const vr = &files[8];
 
-/* A fault that no call returns. */
-static const petool_fault UNTOLD = {0x7777, 0x8888, 0x99999999, 0xaaaaaaaaaaaaaaaa};
-
 static int is_fault(const petool_fault *one, const petool_fault *other)
 {
     return one->number == other->number && one->image == other->image && one->place == other->place && one->at == other->at;

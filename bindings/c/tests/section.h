@@ -5,24 +5,11 @@
 
 #include "check.h"
 
-static const petool_fault UNTOLD = {0x7777, 9, 0x88888888, 0xaaaa};
-
 static bytes v1;
-
-static inline int is_untold(petool_fault fault)
-{
-    return fault.number == UNTOLD.number && fault.image == UNTOLD.image && fault.place == UNTOLD.place && fault.at == UNTOLD.at;
-}
 
 static inline int is_finding(petool_fault it, uint16_t number, uint64_t rva)
 {
     return it.number == number && it.place == PETOOL_PLACE_RVA && it.image == 0 && it.at == rva;
-}
-
-static inline void put_number(uint8_t *at, uint32_t number)
-{
-    for (int k = 0; k < 4; k++)
-        at[k] = (uint8_t)(number >> 8 * k);
 }
 
 /* The file with these bytes in its section, and a directory of so many bytes at RVA 0x1000. */

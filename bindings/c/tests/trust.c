@@ -4,24 +4,11 @@
  */
 #include "check.h"
 
-static const petool_fault UNTOLD = {0x7777, 9, 0x88888888, 0xaaaa};
-
 static bytes v1;
-
-static int is_untold(petool_fault fault)
-{
-    return fault.number == UNTOLD.number && fault.image == UNTOLD.image && fault.place == UNTOLD.place && fault.at == UNTOLD.at;
-}
 
 static int is_finding(petool_fault it, uint16_t number, uint64_t offset)
 {
     return it.number == number && it.place == PETOOL_PLACE_FILE && it.image == 0 && it.at == offset;
-}
-
-static void put_number(uint8_t *at, uint32_t number)
-{
-    for (int k = 0; k < 4; k++)
-        at[k] = (uint8_t)(number >> 8 * k);
 }
 
 /* CheckSum is at 0x98, and directory 4 of 5 at 0xd8; the headers end at 0xe0. */

@@ -57,9 +57,13 @@ from ._image import (
 from ._library import library as _shared
 from ._names import Named, name_of
 from ._object import (
+    EITHER_SECTION_ABSOLUTE,
+    EITHER_SECTION_DEBUG,
+    EITHER_SECTION_UNDEFINED,
     SECTION_ABSOLUTE,
     SECTION_DEBUG,
     SECTION_UNDEFINED,
+    BigObjectHeader,
     Object,
     ObjectHeader,
     ObjectRelocation,
@@ -89,6 +93,7 @@ __all__ = [
     "Archive",
     "ArchiveMember",
     "ArchiveSymbol",
+    "BigObjectHeader",
     "Binding",
     "BoundImport",
     "Buffer",
@@ -96,6 +101,9 @@ __all__ = [
     "CheckSum",
     "ClrHeader",
     "DebugEntry",
+    "EITHER_SECTION_ABSOLUTE",
+    "EITHER_SECTION_DEBUG",
+    "EITHER_SECTION_UNDEFINED",
     "Export",
     "Exports",
     "Finding",

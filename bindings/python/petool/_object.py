@@ -2,10 +2,10 @@
 
 from __future__ import annotations
 
-from ctypes import byref
+from ctypes import Structure, byref, c_bool
 from dataclasses import dataclass, fields
 from itertools import accumulate
-from typing import Any, Callable, Dict, List, Optional, Sequence, Tuple
+from typing import Any, Callable, Dict, List, NamedTuple, Optional, Sequence, Tuple, Type, TypeVar
 
 from . import _library, _records
 from ._bytes import LAYOUTS, Buffer, FileBytes, RowLayout, Rows, first_rows, read_rows
@@ -18,8 +18,16 @@ SECTION_ABSOLUTE = 0xFFFF  #: the section number of a symbol whose value is not 
 SECTION_DEBUG = 0xFFFE  #: the section number of a symbol for debuggers
 # end of describe/records.txt
 
+# from describe/records.txt: either_section_numbers
+EITHER_SECTION_UNDEFINED = 0  #: the section number, in 32 bits, of a symbol of another object
+EITHER_SECTION_ABSOLUTE = 0xFFFF_FFFF  #: the section number, in 32 bits, of a symbol whose value is not an address
+EITHER_SECTION_DEBUG = 0xFFFF_FFFE  #: the section number, in 32 bits, of a symbol for debuggers
+# end of describe/records.txt
+
 #: At least how many relocations are read at once, if there are that many.
 _WINDOW = 4096
+
+Header = TypeVar("Header", "ObjectHeader", "BigObjectHeader")
 
 
 @dataclass(frozen=True)
@@ -34,6 +42,24 @@ class ObjectHeader:
     number_of_symbols: int  #: how many records the symbol table has
     size_of_optional_header: int  #: the size of the optional header
     characteristics: int  #: flags of the object
+    # end of describe/records.txt
+
+
+@dataclass(frozen=True)
+class BigObjectHeader:
+    """The header of a big object (``/bigobj``)."""
+
+    # from describe/records.txt: big_object_header
+    version: int  #: the version of the header: 2 or more
+    machine: int  #: the processor that the object is for
+    time_date_stamp: int  #: when the object was made, in seconds since 1970, as written
+    size_of_data: int  #: SizeOfData, as written
+    flags: int  #: Flags, as written
+    meta_data_size: int  #: MetaDataSize, as written
+    meta_data_offset: int  #: MetaDataOffset, as written
+    number_of_sections: int  #: how many section headers there are
+    pointer_to_symbol_table: int  #: the file offset of the symbol table; 0 if there is none
+    number_of_symbols: int  #: how many records the symbol table has
     # end of describe/records.txt
 
 
@@ -81,10 +107,10 @@ class ObjectRelocation:
 class ObjectSymbol:
     # from describe/records.txt: object_symbol
     name: bytes  #: the name, also if it is in the string table
-    aux: bytes  #: 18 bytes for each auxiliary record
+    aux: bytes  #: 18 bytes for each auxiliary record, 20 of a big object
     index: int  #: the index of the symbol's record, to which relocations refer
     value: int  #: the value, whose meaning depends on the section and the storage class
-    section_number: int  #: counted from 1, or SECTION_UNDEFINED, SECTION_ABSOLUTE or SECTION_DEBUG
+    section_number: int  #: counted from 1, or SECTION_UNDEFINED, SECTION_ABSOLUTE or SECTION_DEBUG; EITHER_SECTION_.. if big objects are read too
     kind: int  #: the type; 32 is a function
     storage_class: int  #: the storage class, as numbered in "PE Format"
     # end of describe/records.txt
@@ -105,50 +131,104 @@ def _maker(file: FileBytes, kind: Callable[..., Any]) -> Callable[..., Any]:
     return make
 
 
-def symbols_of(file: FileBytes, rows: memoryview) -> Rows[ObjectSymbol]:
+def symbols_of(file: FileBytes, rows: memoryview, layout: RowLayout = LAYOUTS["object_symbol"]) -> Rows[ObjectSymbol]:
     """The symbols of an object or of an image, whose rows a call has filled."""
-    return Rows(rows, LAYOUTS["object_symbol"], _maker(file, ObjectSymbol))
+    return Rows(rows, layout, _maker(file, ObjectSymbol))
+
+
+class _Calls(NamedTuple):
+    """The calls that read the tables of an object, and the layout of a symbol's row."""
+
+    sections: Any
+    all_relocations: Any
+    symbols: Any
+    symbol: RowLayout
+
+
+_OF_PLAIN = _Calls(
+    library.petool_object_sections,
+    library.petool_object_all_relocations,
+    library.petool_object_symbols,
+    LAYOUTS["object_symbol"],
+)
+_OF_EITHER = _Calls(
+    library.petool_either_object_sections,
+    library.petool_either_object_all_relocations,
+    library.petool_either_object_symbols,
+    LAYOUTS["either_object_symbol"],
+)
 
 
 class Object(OfFile):
     """One COFF object, from the bytes of its file. FormatFault of 61 to 72. What Image says of bytes and of ``file`` holds here
-    too."""
+    too.
 
-    def __init__(self, data: Buffer, *, file: Optional[str] = None) -> None:
+    A big object (``/bigobj``) has fault 62 unless ``big`` is true. With ``big`` an object of either form is read, and the section
+    numbers of its symbols have 32 bits in both forms: EITHER_SECTION_.. in place of SECTION_.. ."""
+
+    def __init__(self, data: Buffer, *, file: Optional[str] = None, big: bool = False) -> None:
         super().__init__(data, file)
+        self._calls = _OF_EITHER if big else _OF_PLAIN
         self._sections: Optional[Tuple[ObjectSection, ...]] = None
         self._starts: Optional[List[int]] = None
         self._window = 0, memoryview(b"")
         self._symbols: Optional[Rows[ObjectSymbol]] = None
         try:
-            self._ask(library.petool_object_check)
+            self._is_big = self._check(big)
         except BaseException:
             self.close()
             raise
+
+    def _check(self, big: bool) -> bool:
+        """Whether the file is a big object. FormatFault if it is not an object, or is a big one that was not asked for."""
+        found = c_bool()
+        if big:
+            self._ask(library.petool_either_object_check, byref(found))
+        else:
+            self._ask(library.petool_object_check)
+        return found.value
+
+    @property
+    def is_big(self) -> bool:
+        """Whether it is a big object, which is read only with ``big``."""
+        return self._is_big
 
     def _rows(self, function: Any, layout: RowLayout) -> memoryview:
         return read_rows(layout, 64, lambda *rows: self._ask(function, *rows))
 
     @property
     def header(self) -> ObjectHeader:
-        """The COFF file header."""
-        return self._read_headers(0)[0]
+        """The COFF file header. FormatFault 62 of a big object, which has ``big_header``."""
+        return self._read_headers(0, ObjectHeader, _records.ObjectHeader, library.petool_object_headers)[0]
+
+    @property
+    def big_header(self) -> BigObjectHeader:
+        """The header of a big object. FormatFault 62 of a plain one, which has ``header``."""
+        return self._read_big_headers(0)[0]
 
     @property
     def section_headers(self) -> Tuple[SectionHeader, ...]:
         """In the order of the section table, each field as the file has it."""
-        return self._read_headers(self.header.number_of_sections)[1]
+        if self._is_big:
+            return self._read_big_headers(self.big_header.number_of_sections)[1]
+        room = self.header.number_of_sections
+        return self._read_headers(room, ObjectHeader, _records.ObjectHeader, library.petool_object_headers)[1]
 
-    def _read_headers(self, room: int) -> Tuple[ObjectHeader, Tuple[SectionHeader, ...]]:
-        record, rows = _records.ObjectHeader(), (_records.SectionHeader * max(room, 1))()
-        self._ask(library.petool_object_headers, byref(record), rows, room)
-        header = ObjectHeader(**{it.name: getattr(record, it.name) for it in fields(ObjectHeader)})
+    def _read_big_headers(self, room: int) -> Tuple[BigObjectHeader, Tuple[SectionHeader, ...]]:
+        return self._read_headers(room, BigObjectHeader, _records.BigObjectHeader, library.petool_big_object_headers)
+
+    def _read_headers(
+        self, room: int, kind: Type[Header], structure: Type[Structure], function: Any
+    ) -> Tuple[Header, Tuple[SectionHeader, ...]]:
+        record, rows = structure(), (_records.SectionHeader * max(room, 1))()
+        self._ask(function, byref(record), rows, room)
+        header = kind(**{it.name: getattr(record, it.name) for it in fields(kind)})
         return header, tuple(map(_section_header_of, rows[:room]))
 
     @property
     def sections(self) -> Tuple[ObjectSection, ...]:
         if self._sections is None:
-            rows = self._rows(library.petool_object_sections, LAYOUTS["object_section"])
+            rows = self._rows(self._calls.sections, LAYOUTS["object_section"])
             self._sections = tuple(Rows(rows, LAYOUTS["object_section"], _maker(self._file, ObjectSection)))
         return self._sections
 
@@ -156,7 +236,8 @@ class Object(OfFile):
     def symbols(self) -> Sequence[ObjectSymbol]:
         """In the order of the symbol table, without the auxiliary records."""
         if self._symbols is None:
-            self._symbols = symbols_of(self._file, self._rows(library.petool_object_symbols, LAYOUTS["object_symbol"]))
+            layout = self._calls.symbol
+            self._symbols = symbols_of(self._file, self._rows(self._calls.symbols, layout), layout)
         return self._symbols
 
     def relocations(self, section: int) -> Sequence[ObjectRelocation]:
@@ -181,6 +262,6 @@ class Object(OfFile):
         """Rows of the relocations of all sections, from one on."""
 
         def call(*rows: Any) -> int:
-            return self._ask(library.petool_object_all_relocations, skipped, *rows)
+            return self._ask(self._calls.all_relocations, skipped, *rows)
 
         return first_rows(LAYOUTS["object_relocation"], room, call)

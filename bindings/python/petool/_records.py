@@ -183,6 +183,21 @@ class SectionHeader(Structure):
     ]
 
 
+class BigObjectHeader(Structure):
+    _fields_ = [
+        ("version", c_uint16),
+        ("machine", c_uint16),
+        ("time_date_stamp", c_uint32),
+        ("size_of_data", c_uint32),
+        ("flags", c_uint32),
+        ("meta_data_size", c_uint32),
+        ("meta_data_offset", c_uint32),
+        ("number_of_sections", c_uint32),
+        ("pointer_to_symbol_table", c_uint32),
+        ("number_of_symbols", c_uint32),
+    ]
+
+
 class NewMember(Structure):
     _fields_ = [("name", Text), ("bytes", Text)]
 
@@ -221,6 +236,7 @@ FORMS = {
     "object_section": "PNPNIIIIIxxxx",
     "object_relocation": "III",
     "object_symbol": "PNPNIIHHBxxx",
+    "either_object_symbol": "PNPNIIIHBx",
     "archive_member": "PNPNQQQ?xxxxxxxQ?xxxxxxxQ?xxxxxxxQ?xxxxxxxI?xxx",
     "archive_symbol": "PNQ?xxxxxxx",
 }
@@ -347,6 +363,27 @@ CALLS: Dict[str, Tuple[Any, List[Any]]] = {
         [c_void_p, c_size_t, c_size_t, c_void_p, c_size_t, POINTER(c_size_t), POINTER(Fault)],
     ),
     "petool_object_symbols": (c_uint32, [c_void_p, c_size_t, c_void_p, c_size_t, POINTER(c_size_t), POINTER(Fault)]),
+    "petool_either_object_check": (c_uint32, [c_void_p, c_size_t, POINTER(c_bool), POINTER(Fault)]),
+    "petool_either_object_sections": (
+        c_uint32,
+        [c_void_p, c_size_t, c_void_p, c_size_t, POINTER(c_size_t), POINTER(Fault)],
+    ),
+    "petool_either_object_relocations": (
+        c_uint32,
+        [c_void_p, c_size_t, c_size_t, c_void_p, c_size_t, POINTER(c_size_t), POINTER(Fault)],
+    ),
+    "petool_either_object_all_relocations": (
+        c_uint32,
+        [c_void_p, c_size_t, c_size_t, c_void_p, c_size_t, POINTER(c_size_t), POINTER(Fault)],
+    ),
+    "petool_either_object_symbols": (
+        c_uint32,
+        [c_void_p, c_size_t, c_void_p, c_size_t, POINTER(c_size_t), POINTER(Fault)],
+    ),
+    "petool_big_object_headers": (
+        c_uint32,
+        [c_void_p, c_size_t, POINTER(BigObjectHeader), POINTER(SectionHeader), c_size_t, POINTER(Fault)],
+    ),
     "petool_archive_check": (c_uint32, [c_void_p, c_size_t, POINTER(Fault)]),
     "petool_archive_members": (c_uint32, [c_void_p, c_size_t, c_void_p, c_size_t, POINTER(c_size_t), POINTER(Fault)]),
     "petool_archive_symbols": (

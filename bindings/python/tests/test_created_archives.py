@@ -173,7 +173,7 @@ class CreatedArchives(OverFiles, unittest.TestCase):
         self.assertEqual((done.stdout, done.returncode), (b"", 3))
         self.assertTrue(done.stderr.decode().startswith("petool: none/out.lib: "), done.stderr)
 
-    @unittest.skipUnless(AR, "left out without llvm-ar-16")
+    @unittest.skipUnless(AR, "left out without llvm: there is no llvm-ar-16")
     def test_members_as_llvm_ar_lists_them(self):
         self.created(FILES)
         listed = run([AR, "t", "out.lib"], cwd=self.folder)
@@ -181,7 +181,8 @@ class CreatedArchives(OverFiles, unittest.TestCase):
         for name, content in FILES:
             self.assertEqual(run([AR, "p", "out.lib", name], cwd=self.folder).stdout, content)
 
-    @unittest.skipUnless(NM and GNU_NM, "left out without llvm-nm-16 and mingw-w64's nm")
+    @unittest.skipUnless(NM, "left out without llvm: there is no llvm-nm-16")
+    @unittest.skipUnless(GNU_NM, "left out without mingw: there is no nm of mingw-w64")
     def test_symbols_as_nm_finds_them(self):
         self.created(FILES[:4])
         for words, separator in (([NM, "--print-armap"], " in "), ([GNU_NM, "-s"], " in ")):
@@ -189,7 +190,7 @@ class CreatedArchives(OverFiles, unittest.TestCase):
             told = [tuple(line.split(separator)) for line in lines[lines.index("Archive map" if "Archive map" in lines else "Archive index:") + 1:] if separator in line]
             self.assertEqual(sorted(told), sorted((name.decode(), FILES[index][0]) for name, index in NAMES))
 
-    @unittest.skipUnless(LD, "left out without mingw-w64's ld")
+    @unittest.skipUnless(LD, "left out without mingw: there is no ld of mingw-w64")
     def test_a_linker_takes_the_member_that_defines_a_symbol(self):
         self.created([("other.obj", coff((b"other", 0, 1, EXTERNAL))), ("f.obj", coff((b"f", 0, 1, EXTERNAL)))])
         (self.folder / "main.obj").write_bytes(coff((b"start", 0, 1, EXTERNAL), (b"f", 0, 0, EXTERNAL)))

@@ -55,6 +55,10 @@ SECTIONS = [
 SMALL = image(SECTIONS, 0x8000, RAW)
 #: What stands in its image, by the RVA: all else is 0.
 PIECES = {0: SMALL[:0x200], 0x1000: RAW[:0x10], 0x2000: RAW[0x200:0x400], 0x4000: RAW[0x400:0x600], 0x6000: RAW[0x600:0x780]}
+#: A file of several times the 65,536 bytes that are read at a time. The raw data of its first section are behind those of the second,
+#: and what it maps of them is one byte longer than two reads.
+LONG_RAW = bytes(1 + place * 11 % 251 for place in range(0x30000))
+LARGE = image([(0x20001, 0x1000, 0x20200, 0xFE00), (0x10000, 0x30000, 0xFC00, 0x200), (0, 0x50000, 0x200, 0)], 0x60000, LONG_RAW)
 #: An image of 2^31 bytes, whose last section is its end.
 LARGEST = image([(0x200, 0x1000, 0x200, 0x200), (0x100, (1 << 31) - 0x100, 0x100, 0x400)], 1 << 31, RAW)
 OLD = b"the old file"
@@ -93,6 +97,32 @@ class LaidOut(OverFiles, unittest.TestCase):
     def test_images_without_sections_and_without_zero_fill(self):
         for file in (image([], 0x200, b""), image([], 0x1234, b""), image([(0x200, 0x200, 0x200, 0x200)], 0x400, RAW)):
             self.assertEqual(self.assert_laid_out(file), laid_out(file))
+
+    def test_files_that_are_read_in_parts(self):
+        expected = bytearray(0x60000)
+        expected[:0x200] = LARGE[:0x200]
+        expected[0x1000 : 0x1000 + 0x20001] = LONG_RAW[0xFC00 : 0xFC00 + 0x20001]
+        expected[0x30000 : 0x30000 + 0xFC00] = LONG_RAW[:0xFC00]
+        self.assertEqual(self.assert_laid_out(LARGE), bytes(expected))
+        self.assertEqual(run([PROGRAM, "layout", "-", "-"], cwd=self.folder, input=LARGE).stdout, bytes(expected))
+        for size in (0xFFFF, 0x10000, 0x10001):
+            with self.subTest(size):
+                file = image([(0x300, 0x1000, 0x200, 0x200)], 0x2000, RAW).ljust(size, b"\xee")
+                self.assertEqual(self.assert_laid_out(file), laid_out(file))
+
+    def test_headers_of_more_bytes_than_are_read_first(self):
+        for header_bytes in (0xFFF, 0x1000, 0x1001, 0x2000):
+            with self.subTest(header_bytes):
+                file = bytearray(image([(0x300, 0x4000, 0x200, 0x200)], 0x5000, LONG_RAW))
+                struct.pack_into("<I", file, 0x40 + 24 + 60, header_bytes)
+                self.assertEqual(self.assert_laid_out(bytes(file)), laid_out(bytes(file)))
+
+    def test_a_fault_in_a_large_file(self):
+        refused = bytearray(LARGE)
+        struct.pack_into("<I", refused, 0xE0 + 20, 0x4000000)
+        done = self.lay_out(bytes(refused), target="-")
+        self.assertEqual((done.returncode, done.stdout), (1, b""))
+        self.assertIn(b"a.dll: section header at 0xe0: the section's raw data extends past the end of the file", done.stderr)
 
     def test_zero_bytes_take_no_blocks(self):
         (self.folder / "a.dll").write_bytes(LARGEST)
@@ -147,6 +177,13 @@ class LaidOut(OverFiles, unittest.TestCase):
         self.assertEqual((self.folder / "out").read_bytes(), OLD)
         exact = {"preexec_fn": lambda: resource.setrlimit(resource.RLIMIT_FSIZE, (0x8000, 0x8000))}
         self.assertEqual(self.assert_laid_out(SMALL, **exact), laid_out(SMALL))
+
+    def test_what_is_not_written_is_not_read(self):
+        limited = {"preexec_fn": lambda: resource.setrlimit(resource.RLIMIT_AS, (64 << 20, 64 << 20))}
+        (self.folder / "a.dll").write_bytes(LARGE)
+        os.truncate(self.folder / "a.dll", 1 << 30)
+        self.assertEqual(run([PROGRAM, "layout", "a.dll", "out"], cwd=self.folder, **limited).returncode, 0)
+        self.assertEqual((self.folder / "out").read_bytes(), laid_out(LARGE))
 
     def test_memory_is_that_of_the_file(self):
         limited = {"preexec_fn": lambda: resource.setrlimit(resource.RLIMIT_AS, (64 << 20, 64 << 20))}

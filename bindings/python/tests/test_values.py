@@ -293,7 +293,11 @@ class Program(unittest.TestCase):
         for first, clause, name in KINDS:
             with self.subTest(first):
                 self.path.write_bytes(first)
-                if not first.startswith(ARCHIVES):
+                # pages and lines of JSON read archives and big objects
+                if name == "/bigobj object":
+                    line = self.json()
+                    self.assertEqual((line["accepted"], line["format"]), (True, "BIGOBJ"))
+                elif not first.startswith(ARCHIVES):
                     line, row = self.json(), self.fault_row("show")
                     self.assertEqual(line.get("kind"), name)
                     self.assertEqual(list(line), ["schema", "file", "accepted", *["kind"] * (name is not None), "fault"])

@@ -12,7 +12,7 @@ use Rattle.coff_archive.specs.Front.{special_at, behind}
 use Rattle.coff_archive.specs.Imports.{field}
 use Rattle.coff_archive.specs.Symbols.{offset_count, symbol_count, offset_of, symbol_member}
 use Rattle.coff_read.specs.Field as object_field
-use Rattle.coff_read.specs.ObjectFaults.{object_tests, record_tests}
+use Rattle.coff_read.specs.FormFaults.{object_tests, record_tests}
 use Rattle.coff_lines.specs.ArchiveLines.{archive_fault, contents_tests}
 use Rattle.pe_detail.specs.DetailWords.{detail_words}
 use Rattle.pe_json.specs.CertificateRows.{name_if}

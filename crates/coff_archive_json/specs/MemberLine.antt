@@ -6,7 +6,8 @@ use Rattle.pe_view.specs.Faults.{Test, first_standing}
 use Rattle.coff_archive.specs.Imports.{is_import, import_tests, import_of}
 use Rattle.coff_archive.specs.Members.{Member, at_offset, is_special}
 use Rattle.coff_archive.specs.Names.{name_of, contents_of}
-use Rattle.coff_read.specs.ObjectFaults.{object_tests}
+use Rattle.coff_lines.specs.EitherReport.{either_tests}
+use Rattle.coff_read.specs.EitherObject.{form_in}
 use Rattle.pe_detail.specs.declared.detail.Detail.{Detail}
 use Rattle.pe_detail.specs.FaultDetail.{fault_detail}
 use Rattle.pe_json.specs.CertificateRows.{name_if}
@@ -34,7 +35,7 @@ numbers_of bytes fault = fault_detail bytes (length bytes) fault
 
 -- the first fault of an object, whose place counts from its beginning, with these numbers
 abbrev pub object_refusal : List ℕ → Option (Fault × Option Detail)
-object_refusal bytes = option_map (λ fault. (fault, numbers_of bytes fault)) (first_standing (object_tests bytes))
+object_refusal bytes = option_map (λ fault. (fault, numbers_of bytes fault)) (first_standing (either_tests bytes))
 
 -- the first fault of what it holds; the archive's own members are not read, nor are those of a thin archive
 unfoldable pub own_refusal : Bool → Member → Option (Fault × Option Detail)
@@ -50,7 +51,7 @@ held_members thin m =
     if is_special m.field then []
     else (if thin then []
     else (if is_import (contents_of m) then import_members (import_of (contents_of m))
-    else object_members (contents_of m)))
+    else object_members (form_in (contents_of m)) (contents_of m)))
 
 abbrev pub unless_refused : Option (Fault × Option Detail) → List (List ℕ) → List (List ℕ)
 unless_refused None members = members

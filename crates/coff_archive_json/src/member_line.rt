@@ -6,6 +6,7 @@ ghost use Rattle.coff_archive.specs.ArchiveFile.{file_of, is_thin};
 ghost use Rattle.coff_archive.specs.Front.{names_of};
 ghost use Rattle.coff_archive.specs.Imports.{is_import, import_tests, import_of};
 ghost use Rattle.coff_archive.specs.MemberView.{member_view};
+ghost use Rattle.coff_read.specs.EitherObject.{form_in};
 ghost use Rattle.coff_lines.specs.ArchiveLines.{is_refused, contents_tests, read_tests};
 ghost use Rattle.pe_json.specs.CertificateRows.{name_if};
 ghost use Rattle.pe_json.specs.Listed.{more};
@@ -19,7 +20,7 @@ use crate::import::write_import;
 use crate::line::{begin, write_first_fault, write_verdict};
 use coff_archive::{Archive, Member, import_object, is_import};
 use coff_lines::{member_fault, name_fault};
-use coff_read::ObjectFile;
+use coff_read::EitherObject;
 use pe_detail::{Detail, fault_detail};
 use pe_json::{write_name, write_number, write_object_members};
 use pe_text::{Sink, TextWriter};
@@ -89,9 +90,9 @@ fn write_object<W: Sink>(text: &mut TextWriter<W>, first: &Option<Fault>, bytes:
     requires { IsReady W.failures text.old }
     ensures refused { result ≡ is_refused bytes.now }
     ensures adds { Adds W.taken W.failures text.old text.new
-        (more (told (option_map alone first.now) (object_refusal bytes.now) (object_members bytes.now))) }
+        (more (told (option_map alone first.now) (object_refusal bytes.now) (object_members (form_in bytes.now) bytes.now))) }
 {
-    match ObjectFile::new(bytes) {
+    match EitherObject::new(bytes) {
         Ok(object) => {
             write_verdict(text, first);
             write_object_members(text, &object);

@@ -10,7 +10,7 @@ ghost use Rattle.coff_lines.specs.ArchiveLines.{is_refused, contents_tests};
 
 use coff_archive::{Archive, Import, Linker, Member, import_object, is_import};
 use coff_lines::member_fault;
-use coff_read::ObjectFile;
+use coff_read::EitherObject;
 use pe_view::Fault;
 
 /// What a member of an archive is.
@@ -105,7 +105,7 @@ fn check_import<'a>(bytes: &'a [u8], offset: u64) -> CheckedContents<'a>
 fn check_object<'a>(bytes: &'a [u8], offset: u64) -> CheckedContents<'a>
     ensures { result.fault ≡ first_standing (at_offset 307 offset (is_refused bytes.entry.now) ∷ []) }
 {
-    match ObjectFile::new(bytes) {
+    match EitherObject::new(bytes) {
         Ok(object) => CheckedContents {
             contents: Contents::Object(object.machine()),
             fault: None,

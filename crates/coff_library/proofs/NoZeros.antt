@@ -10,11 +10,11 @@ use Rattle.pe_view.specs.Faults.{first_standing}
 use Rattle.pe_view.specs.Number.{part}
 use Rattle.pe_view.specs.Text.{zero_ended, text_between}
 use Rattle.coff_read.specs.Field.{field}
-use Rattle.coff_read.specs.Names.{symbol_name}
-use Rattle.coff_read.specs.ObjectFaults.{object_tests}
-use Rattle.coff_read.specs.Reading.{symbol_at, record_start, symbol_indexes}
+use Rattle.coff_read.specs.EitherObject.{form_in}
+use Rattle.coff_read.specs.FormFaults.{object_tests}
+use Rattle.coff_read.specs.FormReading.{string_at, strings_start, strings_size, symbol_name, symbol_at, record_start, symbol_indexes}
+use Rattle.coff_read.specs.Forms.{Form}
 use Rattle.coff_read.specs.Records as object
-use Rattle.coff_read.specs.Strings.{string_at, strings_start, strings_size}
 use Rattle.coff_archive.specs.Imports.{is_import, import_tests, import_of, texts_end}
 use Rattle.coff_library.specs.Members.{Member}
 use Rattle.coff_library.specs.PublicNames.{is_public, object_names, import_names, public_names}
@@ -58,17 +58,17 @@ between file offset end = elim (cases_Bool (nat_le end (length file))) [
   | inr past ↦ rw past refl
 ]
 
-string_no_zero : (file : List ℕ) (offset : ℕ) → NoZero (unwrap_or (string_at file offset) [])
-string_no_zero file offset = elim (cases_Bool (nat_lt offset 4)) [
+string_no_zero : (big : Form) (file : List ℕ) (offset : ℕ) → NoZero (unwrap_or (string_at big file offset) [])
+string_no_zero big file offset = elim (cases_Bool (nat_lt offset 4)) [
   | inl low ↦ rw low refl
-  | inr high ↦ rw high (between file (strings_start file + offset) (strings_start file + strings_size file))
+  | inr high ↦ rw high (between file (strings_start big file + offset) (strings_start big file + strings_size big file))
 ]
 
-symbol_no_zero : (file : List ℕ) (at : ℕ) → NoZero (unwrap_or (symbol_name file at) [])
-symbol_no_zero file at = elim (cases_Bool (field file at 0 4 == 0)) [
+symbol_no_zero : (big : Form) (file : List ℕ) (at : ℕ) → NoZero (unwrap_or (symbol_name big file at) [])
+symbol_no_zero big file at = elim (cases_Bool (field file at 0 4 == 0)) [
   | inl long ↦ elim (cases_Bool (field file at 4 4 == 0)) [
     | inl none ↦ rw (long, none) refl
-    | inr some ↦ rw (long, some) (string_no_zero file (field file at 4 4))
+    | inr some ↦ rw (long, some) (string_no_zero big file (field file at 4 4))
   ]
   | inr short ↦ rw short (or_all (zero_ended (part file at 8)) (part file at 8) refl)
 ]
@@ -85,19 +85,19 @@ filtered : (b : Bool) (s : object.Symbol) (ss : List object.Symbol) → map (λ 
 filtered true s ss = refl
 filtered false s ss = refl
 
-of_records : (file : List ℕ) (ks : List ℕ) → AreNoZeros (map (λ (s : object.Symbol). s.name) (filter is_public (map (λ k. symbol_at file (record_start file k)) ks)))
+of_records : (big : Form) (file : List ℕ) (ks : List ℕ) → AreNoZeros (map (λ (s : object.Symbol). s.name) (filter is_public (map (λ k. symbol_at big file (record_start big file k)) ks)))
 unfolding AreNoZeros
-of_records file [] = tt
-of_records file (k ∷ ks) =
-    let s : object.Symbol = symbol_at file (record_start file k) in
-    let ss : List object.Symbol = filter is_public (map (λ k. symbol_at file (record_start file k)) ks) in
+of_records big file [] = tt
+of_records big file (k ∷ ks) =
+    let s : object.Symbol = symbol_at big file (record_start big file k) in
+    let ss : List object.Symbol = filter is_public (map (λ k. symbol_at big file (record_start big file k)) ks) in
     subst AreNoZeros (sym (filtered (is_public s) s ss))
-    (step (is_public s) s.name (map (λ (x : object.Symbol). x.name) ss) (symbol_no_zero file (record_start file k)) (of_records file ks))
+    (step (is_public s) s.name (map (λ (x : object.Symbol). x.name) ss) (symbol_no_zero big file (record_start big file k)) (of_records big file ks))
 
 of_object : (bytes : List ℕ) → AreNoZeros (object_names bytes)
 unfolding AreNoZeros
-of_object bytes = elim (cases_Bool (is_none (first_standing (object_tests bytes)))) [
-  | inl none ↦ rw none (of_records bytes (symbol_indexes bytes))
+of_object bytes = elim (cases_Bool (is_none (first_standing (object_tests (form_in bytes) bytes)))) [
+  | inl none ↦ rw none (of_records (form_in bytes) bytes (symbol_indexes (form_in bytes) bytes))
   | inr some ↦ rw some tt
 ]
 

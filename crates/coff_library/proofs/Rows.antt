@@ -6,7 +6,7 @@ use Rattle.pe_view.specs.declared.fault.Place.TheVariants.{Item}
 use Rattle.pe_view.specs.Faults.{first_standing}
 use Rattle.pe_numbers.specs.Numbers.{number_bytes}
 use Rattle.coff_read.specs.Field.{field}
-use Rattle.coff_read.specs.ObjectFaults.{record_tests, object_tests}
+use Rattle.coff_read.specs.FormFaults.{record_tests, object_tests}
 use Rattle.coff_archive.specs.Imports as imports
 use Rattle.coff_library.specs.Members.{Member}
 use Rattle.coff_library.specs.PublicNames.{public_names}

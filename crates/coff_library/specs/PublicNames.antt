@@ -2,8 +2,9 @@
 use Rattle.std.specs.Prelude.{ℕ, ◌==◌, ◌&&◌, ◌||◌, Bool, not, List, [], ◌∷◌, ◌++◌, length, map, filter, is_none, nat_le, if◌then◌else◌}
 use Rattle.pe_view.specs.Faults.{first_standing}
 use Rattle.pe_view.specs.Number.{num, byte_of}
-use Rattle.coff_read.specs.ObjectFaults.{object_tests}
-use Rattle.coff_read.specs.Reading.{object_of}
+use Rattle.coff_read.specs.EitherObject.{form_in}
+use Rattle.coff_read.specs.FormFaults.{object_tests}
+use Rattle.coff_read.specs.FormReading.{object_of}
 use Rattle.coff_read.specs.Records.{Symbol, section_number}
 use Rattle.coff_archive.specs.Imports.{Import, is_import, import_tests, import_of}
 
@@ -19,9 +20,12 @@ is_alias s = nat_le 8 (length s.aux) && num (byte_of s.aux) 4 4 == 3
 abbrev pub is_public : Symbol → Bool
 is_public s = (s.class == 2 && not (is_undefined s)) || (s.class == 105 && is_alias s)
 
--- of an object without a fault, in table order
+-- of an object of either form without a fault, in table order
 abbrev pub object_names : List ℕ → List (List ℕ)
-object_names bytes = if is_none (first_standing (object_tests bytes)) then map (λ (s : Symbol). s.name) (filter is_public (object_of bytes).symbols) else []
+object_names bytes =
+    if is_none (first_standing (object_tests (form_in bytes) bytes))
+    then map (λ (s : Symbol). s.name) (filter is_public (object_of (form_in bytes) bytes).symbols)
+    else []
 
 -- `__imp_`
 abbrev pub import_prefix : List ℕ

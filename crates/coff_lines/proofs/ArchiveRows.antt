@@ -7,7 +7,7 @@ use Rattle.pe_head.specs.Names.{machine_names}
 use Rattle.coff_archive.specs.Front.{special_at, behind}
 use Rattle.coff_archive.specs.Imports.{field}
 use Rattle.coff_read.specs.Field as object
-use Rattle.coff_read.specs.ObjectFaults.{object_tests}
+use Rattle.coff_read.specs.FormFaults.{object_tests}
 use Rattle.pe_text.specs.FaultLine.{fault_line, fault_words, place_text}
 use Rattle.pe_text.specs.Text as text
 use Rattle.pe_text.specs.Text.{hex, quoted, escaped}

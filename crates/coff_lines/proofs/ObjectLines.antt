@@ -7,8 +7,11 @@ use Rattle.std.proofs.lemmas.List.{at_drop_more}
 use Rattle.std.proofs.lemmas.List.FromFn.{get_or-map-range_with_len}
 use Rattle.std.proofs.lemmas.Option.{get_or_from_slice_get}
 use Rattle.pe_view.specs.Number.{part}
-use Rattle.coff_read.specs.Auxiliary.{AuxRecord, aux_of, aux_record}
-use Rattle.coff_read.specs.Records.{Section, Symbol, aux_records}
+use Rattle.coff_read.specs.Auxiliary.{AuxRecord}
+use Rattle.coff_read.specs.FormAuxiliary.{aux_of, aux_record}
+use Rattle.coff_read.specs.FormRecords.{aux_records}
+use Rattle.coff_read.specs.Forms.{Form, symbol_len}
+use Rattle.coff_read.specs.Records.{Section, Symbol}
 use Rattle.pe_text.specs.Text.{numbered}
 use Rattle.pe_text.specs.TextWriter.{Adds, TakesNoMore}
 use Rattle.pe_text.specs.declared.text_writer.TextWriter.{TextWriter}
@@ -28,9 +31,10 @@ pub item_is : {X : Type 0} (item : ℕ → X) (n i : ℕ) (x : X) → i < n → 
 item_is item n i x below is = sym (get_or_from_slice_get (map item (range_with_len 0 n)) i x x (sym is)) ∙ get_or-map-range_with_len item 0 n i i x below (zero-add i)
 
 -- the auxiliary record that is shown
-pub record_told : (s : Symbol) (k : ℕ) (aux : AuxRecord) → k < aux_records s → Some aux ≡ aux_record s k → aux ≡ aux_of s (part s.aux (18 * k) 18)
-record_told s k aux below is =
-    let e : Some aux ≡ Some (aux_of s (part s.aux (18 * k) 18)) = rw (lt-ltb k (aux_records s) below) at is in
+pub record_told : (big : Form) (s : Symbol) (k : ℕ) (aux : AuxRecord) → k < aux_records big s → Some aux ≡ aux_record big s k
+    → aux ≡ aux_of big s (part s.aux (symbol_len big * k) (symbol_len big))
+record_told big s k aux below is =
+    let e : Some aux ≡ Some (aux_of big s (part s.aux (symbol_len big * k) (symbol_len big))) = rw (lt-ltb k (aux_records big s) below) at is in
     cc
 
 -- the rest of a text may be left out if the writer takes no more

@@ -2,8 +2,10 @@
 use Rattle.std.proofs.Common.{◌≡◌, ℕ, List, [], ◌∷◌, refl, codes}
 use Rattle.std.specs.Fmt.{digits}
 use Rattle.coff_read.specs.Auxiliary as auxiliary
+use Rattle.coff_read.specs.Field.{field}
 use Rattle.coff_read.specs.Records.{Bytes, Absent, Section, Symbol}
 use Rattle.coff_read.specs.declared.symbol.SymbolSection.TheVariants as belongs
+use Rattle.coff_read.specs.Forms.{Plain, Big}
 use Rattle.coff_read.specs.TypeNames.{storage_class_names, amd64_type_names, i386_type_names}
 use Rattle.pe_head.specs.Names.{machine_names}
 use Rattle.pe_text.specs.MachineLine.{machine_line}
@@ -36,7 +38,7 @@ plain_symbol : List ℕ → Symbol
 plain_symbol name = record { name = name; value = 0; section = belongs.Section 1; kind = 0x20; class = 2; aux = [] }
 
 -- the symbol after an auxiliary record has the index after that record's
-indexes : object_text (record { machine = 0x8664; time_stamp = 0; characteristics = 0; optional = []; sections = long_section ∷ []; symbols = file_symbol ∷ plain_symbol (codes "abcdefgh") ∷ [] })
+indexes : object_text Plain (record { machine = 0x8664; time_stamp = 0; characteristics = 0; optional = []; sections = long_section ∷ []; symbols = file_symbol ∷ plain_symbol (codes "abcdefgh") ∷ [] })
     ≡ codes "Machine 0x8664 AMD64\nTimeDateStamp 0x00000000\nCharacteristics 0x0000\nsection 1 \".text$long\" size 0x00000006 bytes flags 0x60000020 relocations 1\nreloc 0x00000001 symbol 3 type 4 REL32\nsymbol 0 \".file\" value 0x00000000 section debug type 0x0000 class 103 FILE aux 1\naux 1 file \"a.c\"\nsymbol 2 \"abcdefgh\" value 0x00000000 section 1 type 0x0020 class 2 EXTERNAL aux 0\nend\n"
 unfolding long_section file_symbol plain_symbol object_text machine_line field_line section_line relocation_line symbol_line aux_line quoted escaped hex digits machine_names amd64_type_names i386_type_names storage_class_names
 indexes = refl
@@ -58,7 +60,7 @@ arm64_type : relocation_line 0xaa64 (record { address = 0x10; symbol = 7; kind =
 unfolding relocation_line hex digits amd64_type_names i386_type_names
 arm64_type = refl
 
-no_class : symbol_line 3 (record file_symbol { name = []; value = 7; section = belongs.Absolute; class = 100; aux = [] })
+no_class : symbol_line Plain 3 (record file_symbol { name = []; value = 7; section = belongs.Absolute; class = 100; aux = [] })
     ≡ codes "symbol 3 \"\" value 0x00000007 section absolute type 0x0000 class 100 aux 0\n"
 unfolding file_symbol symbol_line quoted escaped hex digits storage_class_names
 no_class = refl
@@ -82,3 +84,19 @@ section = refl
 raw : aux_line 1 (auxiliary.Raw (0x01 ∷ 0xab ∷ [])) ≡ codes "aux 1 raw 01ab\n"
 unfolding aux_line hex digits
 raw = refl
+
+-- of a big object: a section number over 65,535, in a symbol and in the record of a section, and two records of 20 bytes
+wide_symbol : Symbol
+wide_symbol = record {
+  name = codes ".text$f";
+  value = 0;
+  section = belongs.Section 70000;
+  kind = 0;
+  class = 3;
+  aux = 8 ∷ 0 ∷ 0 ∷ 0 ∷ 1 ∷ 0 ∷ 0 ∷ 0 ∷ 0xef ∷ 0xcd ∷ 0xab ∷ 0 ∷ 0x70 ∷ 0x11 ∷ 5 ∷ 0 ∷ 1 ∷ 0 ∷ 0 ∷ 0 ∷ [];
+}
+
+wide : object_text Big (record { machine = 0x8664; time_stamp = 0; characteristics = 0; optional = []; sections = []; symbols = wide_symbol ∷ plain_symbol (codes "f") ∷ [] })
+    ≡ codes "Machine 0x8664 AMD64\nTimeDateStamp 0x00000000\nCharacteristics 0x0000\nsymbol 0 \".text$f\" value 0x00000000 section 70000 type 0x0000 class 3 STATIC aux 1\naux 1 section 8 1 0 0x00abcdef 70000 5\nsymbol 2 \"f\" value 0x00000000 section 1 type 0x0020 class 2 EXTERNAL aux 0\nend\n"
+unfolding wide_symbol plain_symbol object_text machine_line field_line section_line relocation_line symbol_line aux_line quoted escaped hex digits field machine_names amd64_type_names i386_type_names storage_class_names
+wide = refl

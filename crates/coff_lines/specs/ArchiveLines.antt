@@ -1,4 +1,4 @@
--- The dump of an archive: a line for each member, and under it what `dump_object` writes of an object, or the line of a short
+-- The dump of an archive: a line for each member, and under it what `dump_either_object` writes of an object, or the line of a short
 -- import object.
 use Rattle.std.specs.Prelude.{◌≡◌, ℕ, ◌==◌, Bool, true, List, [], ◌∷◌, ◌++◌, Option, None, Some, Result, Ok, Err, codes, decimal, is_none, not, if◌then◌else◌}
 use Rattle.std.specs.List.{flat_map}
@@ -11,14 +11,12 @@ use Rattle.coff_archive.specs.Imports.{Import, is_import, import_tests, import_o
 use Rattle.coff_archive.specs.Members.{Member, at_offset, is_special, members}
 use Rattle.coff_archive.specs.Names.{name_of, contents_of}
 use Rattle.pe_head.specs.Names.{name_in, machine_names}
-use Rattle.coff_read.specs.ObjectFaults.{object_tests}
-use Rattle.coff_read.specs.Reading.{object_of}
 use Rattle.pe_text.specs.declared.outcome.Outcome.{Outcome}
 use Rattle.pe_text.specs.declared.outcome.Outcome.TheVariants.{Done, Refused}
 use Rattle.pe_text.specs.FaultLine.{fault_line}
 use Rattle.pe_text.specs.Part.{joined, name_text}
 use Rattle.pe_text.specs.Text.{hex, quoted}
-use Rattle.coff_lines.specs.ObjectLines.{object_text}
+use Rattle.coff_lines.specs.EitherReport.{either_tests, either_text}
 
 -- the lines, or in their place the line of a fault
 abbrev pub lines_or : List ℕ → Option Fault → List ℕ
@@ -54,7 +52,7 @@ import_line i = joined
 
 -- the object in these bytes has a fault
 abbrev pub is_refused : List ℕ → Bool
-is_refused bytes = not (is_none (first_standing (object_tests bytes)))
+is_refused bytes = not (is_none (first_standing (either_tests bytes)))
 
 -- why what a member holds is refused: an import object by its findings, an object because it has a fault. The archive's own members
 -- and those of a thin archive are not read.
@@ -71,7 +69,7 @@ contents_text thin m =
     if is_special m.field then []
     else (if thin then []
     else (if is_import (contents_of m) then lines_or (import_line (import_of (contents_of m))) (first_standing (import_tests m.offset (contents_of m)))
-    else lines_or (object_text (object_of (contents_of m))) (first_standing (object_tests (contents_of m)))))
+    else lines_or (either_text (contents_of m)) (first_standing (either_tests (contents_of m)))))
 
 -- of what a walk over the members reads
 abbrev pub read_tests : Bool → List ℕ → Result Member Fault → List Test

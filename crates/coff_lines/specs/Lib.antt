@@ -1,10 +1,15 @@
 pub use Rattle.pe_view.specs.Faults
+pub use Rattle.coff_read.specs.EitherObject
+pub use Rattle.coff_read.specs.FormFaults
+pub use Rattle.coff_read.specs.FormReading
 pub use Rattle.coff_read.specs.ObjectFaults
 pub use Rattle.coff_read.specs.Reading
 pub use Rattle.pe_text.specs.Engine
 pub mod ArchiveLines
+pub mod EitherReport
 pub mod MemberFile
 pub mod NewArchive
 pub mod ObjectLines
 pub mod ObjectPlaces
 pub mod ObjectReport
+pub mod PlainLines

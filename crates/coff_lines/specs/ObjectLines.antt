@@ -1,13 +1,16 @@
--- The lines of an object's dump.
+-- The lines of an object's dump, in either form.
 use Rattle.std.specs.Prelude.{ℕ, ◌+◌, ◌*◌, ◌==◌, Bool, if◌then◌else◌, List, [], ◌∷◌, ◌++◌, codes, decimal, flat_map, length, Option, None}
 use Rattle.std.specs.List.{list_any, range_with_len}
 use Rattle.pe_view.specs.Number.{part}
 use Rattle.pe_head.specs.Names.{name_in}
 use Rattle.coff_read.specs.TypeNames.{storage_class_names, relocation_type_names}
 use Rattle.coff_read.specs.Auxiliary as auxiliary
-use Rattle.coff_read.specs.Auxiliary.{AuxRecord, aux_of}
+use Rattle.coff_read.specs.Auxiliary.{AuxRecord}
+use Rattle.coff_read.specs.FormAuxiliary.{aux_of}
+use Rattle.coff_read.specs.FormRecords.{aux_records}
+use Rattle.coff_read.specs.Forms.{Form, symbol_len}
 use Rattle.coff_read.specs.Records as object
-use Rattle.coff_read.specs.Records.{Object, Raw, Section, Symbol, raw_size, aux_records}
+use Rattle.coff_read.specs.Records.{Object, Raw, Section, Symbol, raw_size}
 use Rattle.coff_read.specs.declared.relocation.Relocation.{Relocation}
 use Rattle.coff_read.specs.declared.symbol.SymbolSection.{SymbolSection}
 use Rattle.coff_read.specs.declared.symbol.SymbolSection.TheVariants as belongs
@@ -66,12 +69,12 @@ section_text belongs.Debug = codes "debug"
 section_text (belongs.Section number) = decimal number
 
 -- a symbol, with the index of its record
-unfoldable pub symbol_line : ℕ → Symbol → List ℕ
-symbol_line index s = joined
+unfoldable pub symbol_line : Form → ℕ → Symbol → List ℕ
+symbol_line big index s = joined
     (codes "symbol " ∷ decimal index ∷ codes " " ∷ quoted s.name ∷ codes " value 0x" ∷ hex 8 s.value
     ∷ codes " section " ∷ section_text s.section ∷ codes " type 0x" ∷ hex 4 s.kind
     ∷ codes " class " ∷ decimal s.class ∷ name_text (class_name s.class)
-    ∷ codes " aux " ∷ decimal (aux_records s) ∷ codes "\n" ∷ [])
+    ∷ codes " aux " ∷ decimal (aux_records big s) ∷ codes "\n" ∷ [])
 
 -- the fields of an auxiliary record, by its format
 abbrev pub shape_text : AuxRecord → List ℕ
@@ -91,19 +94,20 @@ unfoldable pub aux_line : ℕ → AuxRecord → List ℕ
 aux_line index aux = codes "aux " ++ decimal index ++ codes " " ++ shape_text aux ++ codes "\n"
 
 -- the lines of a symbol's auxiliary records, of which the first has the index
-abbrev pub aux_lines : ℕ → Symbol → List ℕ
-aux_lines index s = flat_map (λ k. aux_line (index + k) (aux_of s (part s.aux (18 * k) 18))) (range_with_len 0 (aux_records s))
+abbrev pub aux_lines : Form → ℕ → Symbol → List ℕ
+aux_lines big index s =
+    flat_map (λ k. aux_line (index + k) (aux_of big s (part s.aux (symbol_len big * k) (symbol_len big)))) (range_with_len 0 (aux_records big s))
 
 -- the lines of symbols, of which the first has the index: after each symbol's come those of its auxiliary records
-abbrev pub symbol_lines : ℕ → List Symbol → List ℕ
-symbol_lines index [] = []
-symbol_lines index (s ∷ ss) = symbol_line index s ++ (aux_lines (index + 1) s ++ symbol_lines (index + (1 + aux_records s)) ss)
+abbrev pub symbol_lines : Form → ℕ → List Symbol → List ℕ
+symbol_lines big index [] = []
+symbol_lines big index (s ∷ ss) = symbol_line big index s ++ (aux_lines big (index + 1) s ++ symbol_lines big (index + (1 + aux_records big s)) ss)
 
 -- ---- the whole dump
-unfoldable pub object_text : Object → List ℕ
-object_text o =
+unfoldable pub object_text : Form → Object → List ℕ
+object_text big o =
     machine_line o.machine
     ++ flat_map field_line (time_date_stamp o.time_stamp ∷ characteristics o.characteristics ∷ [])
     ++ numbered (section_lines o.machine) 1 o.sections
-    ++ symbol_lines 0 o.symbols
+    ++ symbol_lines big 0 o.symbols
     ++ codes "end\n"

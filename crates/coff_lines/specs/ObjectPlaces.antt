@@ -2,14 +2,18 @@
 use Rattle.std.specs.Prelude.{ℕ, ◌+◌, List, ◌++◌, flat_map}
 use Rattle.std.specs.List.{range_with_len}
 use Rattle.pe_view.specs.Number.{part}
-use Rattle.coff_read.specs.Auxiliary.{aux_of}
-use Rattle.coff_read.specs.Reading.{aux_count, record_start, symbol_at}
+use Rattle.coff_read.specs.FormAuxiliary.{aux_of}
+use Rattle.coff_read.specs.FormReading.{aux_count, record_start, symbol_at}
+use Rattle.coff_read.specs.Forms.{Form, symbol_len}
 use Rattle.coff_lines.specs.ObjectLines.{symbol_line, aux_line}
 
 -- the line of the auxiliary record with an index, in the format for the symbol that record k begins
-abbrev pub aux_record_line : List ℕ → ℕ → ℕ → List ℕ
-aux_record_line file k index = aux_line index (aux_of (symbol_at file (record_start file k)) (part file (record_start file index) 18))
+abbrev pub aux_record_line : Form → List ℕ → ℕ → ℕ → List ℕ
+aux_record_line big file k index =
+    aux_line index (aux_of big (symbol_at big file (record_start big file k)) (part file (record_start big file index) (symbol_len big)))
 
 -- the lines of the symbol that record k begins and of the auxiliary records after it, each with its own index
-abbrev pub record_lines : List ℕ → ℕ → List ℕ
-record_lines file k = symbol_line k (symbol_at file (record_start file k)) ++ flat_map (aux_record_line file k) (range_with_len (k + 1) (aux_count file k))
+abbrev pub record_lines : Form → List ℕ → ℕ → List ℕ
+record_lines big file k =
+    symbol_line big k (symbol_at big file (record_start big file k))
+    ++ flat_map (aux_record_line big file k) (range_with_len (k + 1) (aux_count big file k))

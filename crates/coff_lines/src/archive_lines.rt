@@ -10,16 +10,14 @@ ghost use Rattle.coff_archive.specs.Imports.{is_import, import_tests, import_of}
 ghost use Rattle.coff_archive.specs.ImportView.{import_view};
 ghost use Rattle.coff_archive.specs.Members.{members};
 ghost use Rattle.coff_archive.specs.MemberView.{member_view, read_view};
-ghost use Rattle.coff_read.specs.ObjectFaults.{object_tests};
-ghost use Rattle.coff_read.specs.Reading.{object_of};
 ghost use Rattle.coff_lines.specs.ArchiveLines.{lines_or, line_of, name_words, member_line, imported_words, kind_name, import_line, is_refused, contents_tests, contents_text, read_tests, read_text, kind_line, archive_lines, archive_fault};
-ghost use Rattle.coff_lines.specs.ObjectLines.{object_text};
+ghost use Rattle.coff_lines.specs.EitherReport.{either_tests, either_text};
 ghost use Rattle.pe_text.specs.TextWriter.{IsReady, Adds};
 
 use crate::member_faults::{member_fault, name_fault};
 use crate::object_lines::{write_name as write_type_name, write_object};
 use coff_archive::{Archive, Import, Member, import_object, is_import};
-use coff_read::ObjectFile;
+use coff_read::EitherObject;
 use pe_head::machine_name;
 use pe_text::Part::{Decimal, Hex8, Quoted, Text};
 use pe_text::{Sink, TextWriter, write_fault_line, write_parts};
@@ -130,13 +128,13 @@ fn write_import_of<W: Sink>(text: &mut TextWriter<W>, bytes: &[u8], offset: u64)
     }
 }
 
-/// Adds the dump of the object that bytes hold, or the line of its first fault, and tells whether there is one.
+/// Adds the dump of the object of either form that bytes hold, or the line of its first fault, and tells whether there is one.
 fn write_object_of<W: Sink>(text: &mut TextWriter<W>, bytes: &[u8]) -> bool
     requires { IsReady W.failures text.old }
     ensures refused { result ≡ is_refused bytes.now }
-    ensures adds { Adds W.taken W.failures text.old text.new (lines_or (object_text (object_of bytes.now)) (first_standing (object_tests bytes.now))) }
+    ensures adds { Adds W.taken W.failures text.old text.new (lines_or (either_text bytes.now) (first_standing (either_tests bytes.now))) }
 {
-    match ObjectFile::new(bytes) {
+    match EitherObject::new(bytes) {
         Ok(object) => {
             write_object(text, &object);
             false

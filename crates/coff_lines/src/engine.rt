@@ -2,14 +2,28 @@
 
 ghost use Rattle.std.specs.Prelude.{◌-◌, ◌^◌, ◌<◌, ◌↔◌, length, IsErrOf};
 ghost use Rattle.pe_text.specs.Engine.{Puts, Ran};
+ghost use Rattle.coff_read.specs.ObjectFile.{file_of};
+ghost use Rattle.coff_read.specs.Reading.{object_of};
 ghost use Rattle.coff_lines.specs.ObjectReport.{IsObjectText};
+ghost use Rattle.coff_lines.specs.PlainLines.{object_text};
+ghost use Rattle.pe_text.specs.TextWriter.{IsReady, Adds};
 
 use crate::object_lines::write_object;
-use coff_read::ObjectFile;
+use coff_read::laws::plain_objects_are_of_the_plain_form;
+use coff_read::{EitherObject, ObjectFile};
 use pe_text::{
     Outcome, Report, Sink, Source, TextWriter, ToolError, refuse, run_report, write_report,
 };
 use std::alloc::{AllocError, Allocator};
+
+/// Adds the lines of the dump of a plain object.
+fn write_plain_object<W: Sink>(text: &mut TextWriter<W>, object: ObjectFile)
+    requires { IsReady W.failures text.old }
+    ensures { Adds W.taken W.failures text.old text.new (object_text (object_of (file_of object.entry))) }
+{
+    plain_objects_are_of_the_plain_form();
+    write_object(text, &EitherObject::Plain(object));
+}
 
 /// The report of [`dump_object`]: the dump of an accepted object, or the object's first fault.
 struct DumpObject;
@@ -25,7 +39,7 @@ impl Report for DumpObject {
     ) -> Result<Outcome, AllocError> {
         match ObjectFile::new(file) {
             Ok(object) => {
-                write_object(text, &object);
+                write_plain_object(text, object);
                 Ok(Outcome::Done)
             }
             Err(fault) => Ok(refuse(text, fault)),

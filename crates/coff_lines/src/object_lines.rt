@@ -3,10 +3,12 @@
 ghost use Rattle.std.specs.Prelude.{◌≡◌, ◌+◌, ◌^◌, ◌≤◌, ◌∷◌, [], codes, decimal, flat_map, option_map};
 ghost use Rattle.coff_read.specs.Auxiliary.{Function, Section as SectionRecord};
 ghost use Rattle.coff_read.specs.AuxiliaryView.{aux_view};
+ghost use Rattle.coff_read.specs.BigAuxiliary.{big_aux_view};
+ghost use Rattle.coff_read.specs.BigView.{belongs_view, big_symbol_view};
+ghost use Rattle.coff_read.specs.EitherObject.{form_of, file_of};
 ghost use Rattle.coff_read.specs.FileView.{file_section_view, relocations_view};
-ghost use Rattle.coff_read.specs.ObjectFile.{file_of};
-ghost use Rattle.coff_read.specs.ObjectView.{raw_view, symbol_view};
-ghost use Rattle.coff_read.specs.Reading.{object_of};
+ghost use Rattle.coff_read.specs.FormReading.{object_of};
+ghost use Rattle.coff_read.specs.ObjectView.{raw_view};
 ghost use Rattle.coff_read.specs.Records.{raw_size};
 ghost use Rattle.coff_lines.specs.ObjectLines.{type_name, class_name, raw_word, section_line, section_lines, relocation_line, section_text, symbol_line, shape_text, aux_line, aux_lines, symbol_lines, object_text};
 ghost use Rattle.pe_text.specs.Part.{joined, name_text};
@@ -14,8 +16,8 @@ ghost use Rattle.pe_text.specs.Text.{hex, numbered};
 ghost use Rattle.pe_text.specs.TextWriter.{IsReady, Adds};
 
 use coff_read::{
-    Aux, FileSection, ObjectFile, RawData, Relocation, Relocations, Symbol, SymbolSection,
-    relocation_type_name, storage_class_name,
+    Aux, BigAux, BigSection, BigSymbol, EitherObject, FileSection, RawData, Relocation,
+    Relocations, relocation_type_name, storage_class_name,
 };
 use pe_head::machine;
 use pe_text::Part::{self, Decimal, Hex8, Quoted, Text};
@@ -122,10 +124,10 @@ fn write_relocations<W: Sink>(text: &mut TextWriter<W>, machine: u16, relocation
 }
 
 /// Adds the lines of each section, with its number from 1.
-fn write_sections<W: Sink>(text: &mut TextWriter<W>, machine: u16, object: &ObjectFile)
+fn write_sections<W: Sink>(text: &mut TextWriter<W>, machine: u16, object: &EitherObject)
     requires { IsReady W.failures text.old }
     ensures { Adds W.taken W.failures text.old text.new
-        (numbered (section_lines machine) 1 (object_of (file_of object.now)).sections) }
+        (numbered (section_lines machine) 1 (object_of (form_of object.now) (file_of object.now)).sections) }
 {
     for index in 0..object.section_count() {
         if text.has_failed() {
@@ -138,22 +140,27 @@ fn write_sections<W: Sink>(text: &mut TextWriter<W>, machine: u16, object: &Obje
 }
 
 /// Adds the section of a symbol: its number from 1, or a word.
-fn write_symbol_section<W: Sink>(line: &mut TextWriter<W>, section: SymbolSection)
+fn write_symbol_section<W: Sink>(line: &mut TextWriter<W>, section: BigSection)
     requires { IsReady W.failures line.old }
-    ensures { Adds W.taken W.failures line.old line.new (section_text section) }
+    ensures { Adds W.taken W.failures line.old line.new (section_text (belongs_view section)) }
 {
     match section {
-        SymbolSection::Undefined => line.text(b"undefined"),
-        SymbolSection::Absolute => line.text(b"absolute"),
-        SymbolSection::Debug => line.text(b"debug"),
-        SymbolSection::Section(number) => line.decimal(number as u64),
+        BigSection::Undefined => line.text(b"undefined"),
+        BigSection::Absolute => line.text(b"absolute"),
+        BigSection::Debug => line.text(b"debug"),
+        BigSection::Section(number) => line.decimal(number as u64),
     }
 }
 
 #[tactic(auto, unfolding(crate::specs::ObjectLines::symbol_line))]
-fn write_symbol<W: Sink>(line: &mut TextWriter<W>, index: u64, symbol: &Symbol)
+fn write_symbol<W: Sink>(
+    line: &mut TextWriter<W>,
+    object: &EitherObject,
+    index: u64,
+    symbol: &BigSymbol,
+)
     requires { IsReady W.failures line.old }
-    ensures { Adds W.taken W.failures line.old line.new (symbol_line index (symbol_view symbol.now)) }
+    ensures { Adds W.taken W.failures line.old line.new (symbol_line (form_of object.now) index (big_symbol_view symbol.now)) }
 {
     line.text(b"symbol ");
     line.decimal(index);
@@ -169,7 +176,7 @@ fn write_symbol<W: Sink>(line: &mut TextWriter<W>, index: u64, symbol: &Symbol)
     line.decimal(symbol.class as u64);
     write_name(line, class_name(symbol.class));
     line.text(b" aux ");
-    line.decimal(symbol.aux_count() as u64);
+    line.decimal(object.aux_count(symbol) as u64);
     line.text(b"\n");
 }
 
@@ -228,7 +235,7 @@ fn write_section_record<W: Sink>(
     relocations: u16,
     line_numbers: u16,
     checksum: u32,
-    number: u16,
+    number: u32,
     selection: u8,
 )
     requires { IsReady W.failures line.old }
@@ -286,7 +293,7 @@ fn write_shape<W: Sink>(line: &mut TextWriter<W>, aux: &Aux)
             *relocations,
             *line_numbers,
             *checksum,
-            *number,
+            *number as u32,
             *selection,
         ),
         Aux::Raw { bytes } => {
@@ -296,52 +303,83 @@ fn write_shape<W: Sink>(line: &mut TextWriter<W>, aux: &Aux)
     }
 }
 
-#[tactic(auto, unfolding(crate::specs::ObjectLines::aux_line))]
-fn write_aux<W: Sink>(line: &mut TextWriter<W>, index: u64, aux: &Aux)
+/// Adds the fields of an auxiliary record of an object of either form.
+fn write_either_shape<W: Sink>(line: &mut TextWriter<W>, aux: &BigAux)
     requires { IsReady W.failures line.old }
-    ensures { Adds W.taken W.failures line.old line.new (aux_line index (aux_view aux.now)) }
+    ensures { Adds W.taken W.failures line.old line.new (shape_text (big_aux_view aux.now)) }
+{
+    match aux {
+        BigAux::Section {
+            length,
+            relocations,
+            line_numbers,
+            checksum,
+            number,
+            selection,
+        } => write_section_record(
+            line,
+            *length,
+            *relocations,
+            *line_numbers,
+            *checksum,
+            *number,
+            *selection,
+        ),
+        BigAux::Other(aux) => write_shape(line, aux),
+    }
+}
+
+#[tactic(auto, unfolding(crate::specs::ObjectLines::aux_line))]
+fn write_aux<W: Sink>(line: &mut TextWriter<W>, index: u64, aux: &BigAux)
+    requires { IsReady W.failures line.old }
+    ensures { Adds W.taken W.failures line.old line.new (aux_line index (big_aux_view aux.now)) }
 {
     line.text(b"aux ");
     line.decimal(index);
     line.text(b" ");
-    write_shape(line, aux);
+    write_either_shape(line, aux);
     line.text(b"\n");
 }
 
 /// Adds the lines of the auxiliary records of a symbol, the first with this index.
-fn write_aux_records<W: Sink>(text: &mut TextWriter<W>, symbol: &Symbol, index: u64)
+fn write_aux_records<'a, W: Sink>(
+    text: &mut TextWriter<W>,
+    object: &EitherObject<'a>,
+    symbol: &BigSymbol<'a>,
+    index: u64,
+)
     requires ready { IsReady W.failures text.old }
     requires small { index ≤ 2 ^ 32 }
-    ensures { Adds W.taken W.failures text.old text.new (aux_lines index (symbol_view symbol.now)) }
+    ensures { Adds W.taken W.failures text.old text.new (aux_lines (form_of object.now) index (big_symbol_view symbol.now)) }
 {
-    for k in 0..symbol.aux_count() {
+    for k in 0..object.aux_count(symbol) {
         if text.has_failed() {
             return;
         }
-        let aux = symbol.aux_record(k).unwrap();
+        let aux = object.aux_record(symbol, k).unwrap();
         write_aux(text, index + k as u64, &aux);
     }
 }
 
 /// Adds the lines of each symbol, with the index of its record, and of its auxiliary records.
-fn write_symbols<W: Sink>(text: &mut TextWriter<W>, object: &ObjectFile)
+fn write_symbols<W: Sink>(text: &mut TextWriter<W>, object: &EitherObject)
     requires { IsReady W.failures text.old }
-    ensures { Adds W.taken W.failures text.old text.new (symbol_lines 0 (object_of (file_of object.now)).symbols) }
+    ensures { Adds W.taken W.failures text.old text.new (symbol_lines (form_of object.now) 0 (object_of (form_of object.now) (file_of object.now)).symbols) }
 {
     for (index, symbol) in object.symbols() {
         if text.has_failed() {
             return;
         }
-        write_symbol(text, u64::from(index), &symbol);
-        write_aux_records(text, &symbol, u64::from(index) + 1);
+        write_symbol(text, object, u64::from(index), &symbol);
+        write_aux_records(text, object, &symbol, u64::from(index) + 1);
     }
 }
 
-/// Adds the lines of an object's dump.
+/// Adds the lines of the dump of an object of either form.
 #[tactic(auto, unfolding(crate::specs::ObjectLines::object_text))]
-pub(crate) fn write_object<W: Sink>(text: &mut TextWriter<W>, object: &ObjectFile)
+pub(crate) fn write_object<W: Sink>(text: &mut TextWriter<W>, object: &EitherObject)
     requires { IsReady W.failures text.old }
-    ensures { Adds W.taken W.failures text.old text.new (object_text (object_of (file_of object.now))) }
+    ensures { Adds W.taken W.failures text.old text.new (object_text (form_of object.now) (object_of (form_of object.now) (file_of object.now))) }
 {
     write_machine(text, object.machine());
     write_fields(

@@ -1,4 +1,5 @@
 pub mod Appends
+pub mod BigRows
 pub mod Bytes
 pub mod Far
 pub mod Form
@@ -9,7 +10,9 @@ pub mod Listed
 pub mod MoreTexts
 pub mod NameFields
 pub mod NamePlaces
+pub mod NeededForm
 pub mod Offsets
+pub mod PlainWritten
 pub mod ReadBack
 pub mod RelocationsBack
 pub mod Rows

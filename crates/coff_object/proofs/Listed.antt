@@ -18,10 +18,6 @@ all_left P left more y is all = subst (AllByRecursion P) is all
 pub all_front : {Y : Type 0} (P : Y → Type 0) (left more : List Y) (y : Y) → left ≡ y ∷ more → P y → AllByRecursion P more → AllByRecursion P left
 all_front P left more y is here later = subst (AllByRecursion P) (sym is) (here, later)
 
--- an item of a list is the same, whatever the default for a missing one
-pub get_or_any : {X : Type 0} (xs : List X) (i : ℕ) (d : X) → i < length xs → get_or xs i d ≡ get_or xs i (get_or xs i d)
-get_or_any xs i d lt = get_or_default xs i d (get_or xs i d) lt
-
 -- an item of a list of values
 pub get_or_map : {X Y : Type 0} (f : X → Y) (xs : List X) (i : ℕ) (d : Y) (e : X) → i < length xs → get_or (map f xs) i d ≡ f (get_or xs i e)
 get_or_map f [] i d e lt = absurd omega arith

@@ -15,8 +15,6 @@ use Rattle.coff_object.specs.Written.{long_section_names, long_symbol_names, sec
 use Rattle.coff_object.proofs.Listed.{items_left, get_or_map}
 use Rattle.coff_object.proofs.Offsets.{offset-ge}
 use Rattle.coff_object.proofs.Writable.{offset-le}
-use Rattle.coff_read.specs.declared.symbol.Symbol.{Symbol}
-use Rattle.coff_read.specs.declared.symbol.SymbolSection.TheVariants.{Undefined}
 use Rattle.coff_object.proofs.StringTable.{equal_bytes, in-all, in-first, in-new}
 
 offset-before : (at : ℕ) (texts more : List (List ℕ)) (text : List ℕ) → is_among text texts ≡ true → offset_from at (texts ++ more) text ≡ offset_from at texts text
@@ -121,10 +119,6 @@ placed o one two sections symbols first second of_sections of_symbols =
       sections = of_sections ∙ ap (λ (ts : List (List ℕ)). section_places ts o.sections) first ∙ sym stay;
       symbols = of_symbols ∙ ap (λ (ts : List (List ℕ)). symbol_places ts o.symbols) texts;
     }
-
--- an empty symbol
-abbrev pub no_symbol : Symbol
-no_symbol = record { name = record { ref_ptr = (0, 0); now = [] }; value = 0; section = Undefined; kind = 0; class = 0; aux = record { ref_ptr = (0, 0); now = [] } }
 
 -- the offset of the name of the item at an index
 pub place_at : {X Y : Type 0} (test : List ℕ → Bool) (view : X → Y) (name : Y → List ℕ) (strings : List (List ℕ)) (xs : List X) (places : List ℕ) (i : ℕ) (x : X) (place : ℕ)

@@ -2,17 +2,13 @@
 use Rattle.std.proofs.Common.{◌≡◌, ℕ, ◌+◌, ◌*◌, false, List, [], ◌∷◌, length, Some, None, refl, ap, ◌∙◌, arith}
 use Rattle.std.specs.Prelude.{map, nat_le}
 use Rattle.std.specs.List.{flat_map, range_with_len, list_any, AllByRecursion}
-use Rattle.std.proofs.lemmas.Bool.{or_parts}
-use Rattle.pe_view.specs.Faults.{first_standing}
 use Rattle.pe_numbers.specs.declared.number.Number.{Number}
 use Rattle.pe_numbers.specs.declared.number.Number.TheVariants.{U16, U32}
 use Rattle.pe_numbers.specs.Numbers.{NumberFits, number_bytes, beginning_at}
 use Rattle.pe_numbers.specs.StandsAt.{StandsAt, stands-front, stands-back}
 use Rattle.coff_read.specs.Field.{field}
-use Rattle.coff_read.specs.ObjectFaults.{relocation_test}
 use Rattle.coff_read.specs.Reading.{relocation_at}
 use Rattle.coff_read.specs.Records.{RelocationFits}
-use Rattle.coff_read.specs.Strings.{record_count}
 use Rattle.coff_object.specs.Written.{relocation_numbers, relocation_bytes}
 use Rattle.coff_read.specs.declared.relocation.Relocation.{Relocation}
 use Rattle.coff_object.proofs.Bytes.{field_read}
@@ -39,17 +35,3 @@ relocations_read file base i (r ∷ rs) h fits =
     let behind = stands-back file (base + 10 * i) (base + 10 * (i + 1)) (relocation_bytes r) (flat_map relocation_bytes rs) h (omega arith) in
     let later = relocations_read file base (i + 1) rs behind fits.1 in
     rw (here, later) refl
-
--- none of them names a record that isn't there
-pub relocations_accepted : (file : List ℕ) (base i count : ℕ) (rs : List Relocation) → StandsAt file (base + 10 * i) (flat_map relocation_bytes rs) → AllByRecursion RelocationFits rs
-    → record_count file ≡ count → list_any (λ (r : Relocation). nat_le count r.symbol) rs ≡ false
-    → first_standing (map (λ k. relocation_test file (base + 10 * k)) (range_with_len i (length rs))) ≡ None
-unfolding number_bytes
-relocations_accepted file base i count [] h fits is none = refl
-relocations_accepted file base i count (r ∷ rs) h fits is none =
-    let at : ℕ = base + 10 * i in
-    let parts = or_parts (nat_le count r.symbol) (list_any (λ (r : Relocation). nat_le count r.symbol) rs) none in
-    let symbol : field file at 4 4 ≡ r.symbol = ap (λ (r : Relocation). r.symbol) (relocation_read file at r (stands-front file at (relocation_bytes r) (flat_map relocation_bytes rs) h) fits.0) in
-    let stands : (relocation_test file at).stands ≡ false = ap (λ (n : ℕ). nat_le n (field file at 4 4)) is ∙ ap (nat_le count) symbol ∙ parts.0 in
-    let behind = stands-back file at (base + 10 * (i + 1)) (relocation_bytes r) (flat_map relocation_bytes rs) h (omega arith) in
-    rw stands (relocations_accepted file base (i + 1) count rs behind fits.1 is parts.1)

@@ -6,10 +6,8 @@ use Rattle.std.proofs.lemmas.Bool.{cases_Bool, or_cases, or_left, or_right, or_p
 use Rattle.std.proofs.lemmas.List.Folds.{list_any-append}
 use Rattle.std.proofs.lemmas.Slice.Eq.{bytes_eq-Decides}
 use Rattle.pe_view.specs.Text.{zero_ended}
-use Rattle.pe_numbers.specs.StandsAt.{StandsAt, stands-back, stands_part, stands_inside}
-use Rattle.coff_read.specs.Strings.{is_among, string_at, strings_start, strings_size, with_string, with_strings, offset_from, offset_of, string_bytes}
+use Rattle.coff_read.specs.Strings.{is_among, with_string, with_strings, offset_from, offset_of, string_bytes}
 use Rattle.coff_object.specs.WriteFaults.{has_zero}
-use Rattle.coff_read.proofs.StringPlaces.{zero_ended-behind}
 
 pub same_bytes : (a b : List ℕ) → bytes_eq a b ≡ true → a ≡ b
 same_bytes a b e = (bytes_eq-Decides a b).0 e
@@ -88,26 +86,3 @@ zero_ended-open (zero ∷ text) none = absurd cc
 zero_ended-open (suc b ∷ text) none =
     let later : has_zero text ≡ false = (or_parts (suc b == 0) (has_zero text) none).1 in
     rw (zero_ended-open text later) refl
-
--- a file has a string table of these strings
-pub record HasStrings (file : List ℕ) (table : List (List ℕ)) : Type 0 where
-  pub size : strings_size file ≡ 4 + length (string_bytes table)
-  pub bytes : StandsAt file (strings_start file + 4) (string_bytes table)
-
-pub string_read : (file : List ℕ) (table : List (List ℕ)) (text : List ℕ) → HasStrings file table → is_among text table ≡ true → has_zero text ≡ false → string_at file (offset_of table text) ≡ Some text
-string_read file table text h is none =
-    let s = is_stored 4 table text is in
-    let at : ℕ = strings_start file + offset_of table text in
-    let end : ℕ = strings_start file + strings_size file in
-    let size = h.size in
-    let offset = s.offset in
-    let text_len : length (text ++ 0 ∷ []) ≡ length text + 1 = length-append text (0 ∷ []) in
-    let one_len : length ((text ++ 0 ∷ []) ++ s.back) ≡ length (text ++ 0 ∷ []) + length s.back = length-append (text ++ 0 ∷ []) s.back in
-    let all_len : length (string_bytes table) ≡ length s.front + length ((text ++ 0 ∷ []) ++ s.back) = ap length s.bytes ∙ length-append s.front ((text ++ 0 ∷ []) ++ s.back) in
-    let inside : end ≤ length file = (let e = stands_inside file (strings_start file + 4) (string_bytes table) h.bytes (omega arith) in omega arith) in
-    let split : StandsAt file (strings_start file + 4) (s.front ++ ((text ++ 0 ∷ []) ++ s.back)) = subst (StandsAt file (strings_start file + 4)) s.bytes h.bytes in
-    let here : StandsAt file at ((text ++ 0 ∷ []) ++ s.back) = stands-back file (strings_start file + 4) at s.front ((text ++ 0 ∷ []) ++ s.back) split (omega arith) in
-    let range : slice_range file at end ≡ (text ++ 0 ∷ []) ++ s.back = stands_part file at (end - at) ((text ++ 0 ∷ []) ++ s.back) here (omega arith) in
-    let four = le-ltb (offset_of table text) 4 (omega arith) in
-    let fits = le-leb end (length file) inside in
-    rw (four, fits, range) (ap zero_ended (append_assoc text (0 ∷ []) s.back) ∙ zero_ended-behind text s.back none)

@@ -1,14 +1,19 @@
 //! The bytes of an object's records: section headers, the bodies of sections with their relocations, and symbols.
 
-ghost use Rattle.std.specs.Prelude.{◌≡◌, ◌+◌, ◌*◌, ◌≤◌, ◌<◌, ◌^◌, ◌++◌, ◌∷◌, length, replicate, IsTrue, OnOk};
+ghost use Rattle.std.specs.Prelude.{◌≡◌, ◌+◌, ◌*◌, ◌/◌, ◌≤◌, ◌<◌, ◌^◌, ◌++◌, ◌∷◌, length, replicate, IsTrue, OnOk};
 ghost use Rattle.std.specs.List.{flat_map, AllByRecursion};
+ghost use Rattle.coff_read.specs.BigView.{belongs_view, big_symbol_view};
+ghost use Rattle.coff_read.specs.FormRecords.{section_number};
+ghost use Rattle.coff_read.specs.Forms.{symbol_len};
 ghost use Rattle.coff_read.specs.Names.{decimal_digits, padded, is_long, is_long_section_name};
 ghost use Rattle.coff_read.specs.Records.{RawFits, RelocationFits, RelocationsFit, SectionFits, SymbolFits};
-ghost use Rattle.coff_object.specs.Written.{relocation_bytes, raw_bytes, pointer_to, raw_size, section_body, section_name_at, section_fields, symbol_name_at, aux_records, symbol_fields};
-ghost use Rattle.coff_read.specs.ObjectView.{raw_view, section_view, symbol_view};
+ghost use Rattle.coff_object.specs.Written.{relocation_bytes, raw_bytes, pointer_to, raw_size, section_body, section_name_at, section_fields, symbol_name_at};
+ghost use Rattle.coff_object.specs.FormWritten.{symbol_fields, number_limit};
+ghost use Rattle.coff_read.specs.ObjectView.{raw_view, section_view};
+ghost use Rattle.coff_read.specs.FormRecords as form;
 
 use coff_read::{
-    NAME_LEN, ObjSection, RELOCATION_LEN, RawData, Relocation, Symbol, is_long,
+    BigSection, BigSymbol, NAME_LEN, ObjSection, RELOCATION_LEN, RawData, Relocation, is_long,
     is_long_section_name,
 };
 use itoa::Buffer;
@@ -182,25 +187,63 @@ fn push_symbol_name<A: Allocator>(
     }
 }
 
+/// The size of a symbol's record in bytes.
+pub(crate) fn record_len(big: bool) -> u64
+    ensures { result ≡ symbol_len big }
+{
+    if big { 20 } else { 18 }
+}
+
+/// How many auxiliary records are in these bytes.
+pub(crate) fn aux_records(big: bool, aux: &[u8]) -> u64
+    ensures value { result ≡ length aux.now / symbol_len big }
+    ensures few { result ≤ length aux.now }
+{
+    let len = aux.len() as u64;
+    if big { len / 20 } else { len / 18 }
+}
+
+/// The field SectionNumber of a symbol's record.
+fn number_of(big: bool, section: BigSection) -> u32
+    ensures { result ≡ section_number big (belongs_view section) }
+{
+    if big {
+        return section.number();
+    }
+    match section {
+        BigSection::Undefined => 0,
+        BigSection::Absolute => 0xffff,
+        BigSection::Debug => 0xfffe,
+        BigSection::Section(number) => number,
+    }
+}
+
 /// Adds the fields of a symbol's record after its name.
 fn push_symbol_fields<A: Allocator>(
     bytes: &mut Vec<u8, A>,
-    symbol: &Symbol,
+    big: bool,
+    symbol: BigSymbol,
 ) -> Result<(), AllocError>
-    requires { aux_records (symbol_view symbol.now) < 2 ^ 8 }
-    ensures fits { OnOk result (SymbolFits (symbol_view symbol.now)) }
-    ensures bytes { OnOk result (bytes.new.items ≡ bytes.old.items ++ symbol_fields (symbol_view symbol.now)) }
+    requires few { form.aux_records big (big_symbol_view symbol) < 2 ^ 8 }
+    requires near { section_number big (big_symbol_view symbol).section < number_limit big }
+    ensures fits { OnOk result (SymbolFits (big_symbol_view symbol.entry)) }
+    ensures bytes { OnOk result (bytes.new.items ≡ bytes.old.items ++ symbol_fields big (big_symbol_view symbol.entry)) }
 {
-    push_record::<10, A>(
-        bytes,
-        &[
-            U32(symbol.value),
-            U16(symbol.section.number()),
-            U16(symbol.kind),
-            U8(symbol.class),
-            U8((symbol.aux.len() / 18) as u8),
-        ],
-    )
+    let number = number_of(big, symbol.section);
+    let aux = aux_records(big, symbol.aux) as u8;
+    let (value, kind, class) = (symbol.value, symbol.kind, symbol.class);
+    if big {
+        let fields = [U32(value), U32(number), U16(kind), U8(class), U8(aux)];
+        return push_record::<12, A>(bytes, &fields);
+    }
+    let fields = [
+        U32(value),
+        U16(number as u16),
+        U16(kind),
+        U8(class),
+        U8(aux),
+    ];
+    push_record::<10, A>(bytes, &fields)
 }
 
 /// Adds the header of a section whose body is at a file offset; a name that is too long is at an offset of the string table.
@@ -224,15 +267,17 @@ pub(crate) fn push_section_header<A: Allocator>(
 /// Adds a symbol's record and its auxiliary records; a name that is too long is at an offset of the string table.
 pub(crate) fn push_symbol<A: Allocator>(
     bytes: &mut Vec<u8, A>,
+    big: bool,
     place: u64,
-    symbol: &Symbol,
+    symbol: BigSymbol,
 ) -> Result<(), AllocError>
-    requires near { place < 2 ^ 32 }
-    requires few { aux_records (symbol_view symbol.now) < 2 ^ 8 }
-    ensures fits { OnOk result (SymbolFits (symbol_view symbol.now)) }
-    ensures bytes { OnOk result (bytes.new.items ≡ bytes.old.items ++ (symbol_name_at place symbol.now.name.now ++ (symbol_fields (symbol_view symbol.now) ++ symbol.now.aux.now))) }
+    requires offset { place < 2 ^ 32 }
+    requires few { form.aux_records big (big_symbol_view symbol) < 2 ^ 8 }
+    requires near { section_number big (big_symbol_view symbol).section < number_limit big }
+    ensures fits { OnOk result (SymbolFits (big_symbol_view symbol.entry)) }
+    ensures bytes { OnOk result (bytes.new.items ≡ bytes.old.items ++ (symbol_name_at place symbol.entry.name.now ++ (symbol_fields big (big_symbol_view symbol.entry) ++ symbol.entry.aux.now))) }
 {
     push_symbol_name(bytes, place, symbol.name)?;
-    push_symbol_fields(bytes, symbol)?;
+    push_symbol_fields(bytes, big, symbol)?;
     bytes.extend_from_slice(symbol.aux)
 }

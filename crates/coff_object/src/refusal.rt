@@ -1,11 +1,12 @@
 //! The tests of faults 81 to 83 of an object to be written: zero bytes in names, far names and too many relocations.
 
 ghost use Rattle.std.specs.Prelude.{◌≡◌, map, nat_lt, position};
-ghost use Rattle.coff_read.specs.ObjectView.{section_view, symbol_view};
+ghost use Rattle.coff_read.specs.BigView.{big_symbol_view};
+ghost use Rattle.coff_read.specs.ObjectView.{section_view};
 ghost use Rattle.coff_read.specs.Records as format;
 ghost use Rattle.coff_object.specs.WriteFaults.{has_zero, has_many_relocations};
 
-use coff_read::{ObjSection, Symbol};
+use coff_read::{BigSymbol, ObjSection, WideSymbol};
 use std::alloc::Allocator;
 
 /// Whether a name has a zero byte.
@@ -41,9 +42,18 @@ pub(crate) fn crowded_section<A: Allocator>(sections: &[ObjSection<A>]) -> Optio
         .position(|section| section.relocations.len() > 65_534)
 }
 
-/// The first symbol with a zero byte in its name.
-pub(crate) fn zero_in_symbols(symbols: &[Symbol]) -> Option<usize>
-    ensures { result ≡ position (λ (s : format.Symbol). has_zero s.name) (map symbol_view symbols.now) }
+/// Whether a symbol's name has a zero byte.
+fn is_broken_name(symbol: BigSymbol) -> bool
+    ensures { result ≡ has_zero (big_symbol_view symbol.entry).name }
 {
-    symbols.iter().position(|symbol| has_zero(symbol.name))
+    has_zero(symbol.name)
+}
+
+/// The first symbol with a zero byte in its name.
+pub(crate) fn zero_in_symbols<S: WideSymbol>(symbols: &[S]) -> Option<usize>
+    ensures { result ≡ position (λ (s : format.Symbol). has_zero s.name) (map S.view symbols.now) }
+{
+    symbols
+        .iter()
+        .position(|symbol| is_broken_name(symbol.wide()))
 }

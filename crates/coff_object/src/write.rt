@@ -1,9 +1,13 @@
-//! `write_object`: the bytes of an object file, or the least of faults 81 to 85.
+//! `write_object` and `write_big_object`: the bytes of an object file, or the least of faults 81 to 85.
 
-ghost use Rattle.std.specs.Prelude.{◌≡◌, ◌+◌, ◌-◌, ◌<◌, ◌^◌, ◌++◌, false, if◌then◌else◌, length, map, min, ⊤, Some, Err, OnOk, IfOk};
+ghost use Rattle.std.specs.Prelude.{◌≡◌, ◌+◌, ◌-◌, ◌<◌, ◌≤◌, ◌^◌, ◌++◌, true, false, length, map, min, ⊤, Some, Err, OnOk, IfOk};
 ghost use Rattle.std.specs.List.{flat_map, AllByRecursion};
 ghost use Rattle.pe_view.specs.Faults.{Answers, first_standing, AnswersOrWants};
-ghost use Rattle.coff_read.specs.ObjectView.{section_view, symbol_view, object_view};
+ghost use Rattle.coff_read.specs.BigView.{big_object_view};
+ghost use Rattle.coff_read.specs.FormFaults as form_faults;
+ghost use Rattle.coff_read.specs.FormRecords.{section_number, aux_records};
+ghost use Rattle.coff_read.specs.Forms.{Big, header_len};
+ghost use Rattle.coff_read.specs.ObjectView.{section_view, object_view};
 ghost use Rattle.coff_read.specs.ObjectFaults.{IsObjectOf};
 ghost use Rattle.coff_read.specs.Records as format;
 ghost use Rattle.coff_read.specs.Records.{SectionFits, RelocationsFit, SymbolFits, HeaderFits, Fits};
@@ -11,21 +15,32 @@ ghost use Rattle.pe_view.specs.declared.fault.Fault as code_fault;
 ghost use Rattle.coff_object.specs.StringTableView.{counted};
 ghost use Rattle.coff_object.specs.StringTableWords.{texts_in};
 ghost use Rattle.coff_read.specs.Strings.{string_bytes};
-ghost use Rattle.coff_object.specs.Written.{bodies_start, has_strings, symbols_start, coff_header, string_table, canon, strings_of, section_body, section_table, symbol_bytes, aux_records};
+ghost use Rattle.coff_object.specs.FormWriteFaults as form;
+ghost use Rattle.coff_object.specs.FormWriteFaults.{is_bad_header, is_bad_object, form_tests};
+ghost use Rattle.coff_object.specs.FormWritten as written;
+ghost use Rattle.coff_object.specs.FormWritten.{number_limit, optional_of, bodies_start, symbols_pointer, coff_header, symbol_bytes};
+ghost use Rattle.coff_object.specs.Written.{has_strings, string_table, canon, strings_of, section_body, section_table};
 ghost use Rattle.coff_object.specs.NamePlaces.{section_places, symbol_places, ArePlacesOf};
+ghost use Rattle.coff_object.specs.PartsView.{parts_view};
 ghost use Rattle.coff_object.specs.Writable.{IsWritable};
-ghost use Rattle.coff_object.specs.WriteFaults.{name_tests, section_tests, form_tests, write_tests, is_far, has_many_relocations, is_bad_object};
+ghost use Rattle.coff_object.specs.WriteFaults.{name_tests, section_tests, write_tests, is_far, has_many_relocations};
 ghost use Rattle.pe_view.specs.declared.refusal.Refusal.{Refusal};
 
 use crate::layout::{NamePlaces, bodies_size, body_size, place_names, record_count, symbols_size};
+use crate::parts::Parts;
 use crate::record_bytes::{push_body, push_section_header, push_symbol};
 use crate::refusal::{crowded_section, far_section, zero_in_sections, zero_in_symbols};
 use crate::string_table::StringTable;
-use coff_read::{ObjSection, Object, ObjectError, Symbol, has_bad_part, is_other_header};
+use coff_read::{
+    BigObject, ObjSection, Object, ObjectError, WideSymbol, has_bad_item, is_other_header,
+};
 use pe_numbers::Number::{U16, U32};
 use pe_numbers::push_numbers;
 use pe_view::{Fault, Place};
 use std::alloc::{AllocError, Allocator};
+
+/// The class of big objects, {D1BAA1C7-BAEE-4BA9-AF20-FAF66AA4DCB8}, as four numbers.
+const BIG_CLASS: [u32; 4] = [0xd1ba_a1c7, 0x4ba9_baee, 0xf6fa_20af, 0xb8dc_a46a];
 
 /// A fault of an item, whose index is capped at the greatest that a place can hold.
 fn item_fault(number: u16, index: u64) -> Fault
@@ -39,31 +54,31 @@ fn item_fault(number: u16, index: u64) -> Fault
 }
 
 /// Tests fault 81.
-fn check_names<A: Allocator>(object: &Object<A>) -> Result<(), Fault>
-    ensures { Answers (name_tests (object_view object.now)) (λ _. ⊤) result }
+fn check_names<A: Allocator, S: WideSymbol>(object: &Parts<'_, '_, A, S>) -> Result<(), Fault>
+    ensures { Answers (name_tests (parts_view S.view object.now)) (λ _. ⊤) result }
 {
-    if let Some(index) = zero_in_sections(object.sections.as_slice()) {
+    if let Some(index) = zero_in_sections(object.sections) {
         return Err(item_fault(81, index as u64));
     }
-    if let Some(index) = zero_in_symbols(object.symbols.as_slice()) {
-        let sections = object.sections.as_slice().len() as u64;
+    if let Some(index) = zero_in_symbols(object.symbols) {
+        let sections = object.sections.len() as u64;
         return Err(item_fault(81, sections.saturating_add(index as u64)));
     }
     Ok(())
 }
 
 /// Tests faults 82 and 83.
-fn check_sections<A: Allocator + Copy>(
-    object: &Object<A>,
+fn check_sections<A: Allocator + Copy, S: WideSymbol>(
+    object: &Parts<'_, '_, A, S>,
     places: &NamePlaces<A>,
 ) -> Result<(), Fault>
-    requires { ArePlacesOf (object_view object.now) places.now }
-    ensures { Answers (section_tests (object_view object.now)) (λ _. ⊤) result }
+    requires { ArePlacesOf (parts_view S.view object.now) places.now }
+    ensures { Answers (section_tests (parts_view S.view object.now)) (λ _. ⊤) result }
 {
     if let Some(index) = far_section(places.sections.as_slice()) {
         return Err(item_fault(82, index as u64));
     }
-    if let Some(index) = crowded_section(object.sections.as_slice()) {
+    if let Some(index) = crowded_section(object.sections) {
         return Err(item_fault(83, index as u64));
     }
     Ok(())
@@ -106,35 +121,43 @@ fn push_bodies<A: Allocator>(
 }
 
 /// Adds the records of symbols.
-fn push_symbols<A: Allocator + Copy>(
+fn push_symbols<A: Allocator + Copy, S: WideSymbol>(
     bytes: &mut Vec<u8, A>,
+    big: bool,
     places: &NamePlaces<A>,
-    symbols: &[Symbol],
+    symbols: &[S],
 ) -> Result<(), AllocError>
-    requires places { places.now.symbols.items ≡ symbol_places (texts_in places.now.strings) (map symbol_view symbols.now) }
-    requires near { 4 + length (string_bytes (texts_in places.now.strings)) < 2 ^ 32 }
-    requires few { AllByRecursion (λ (s : format.Symbol). aux_records s < 2 ^ 8) (map symbol_view symbols.now) }
-    ensures fits { OnOk result (AllByRecursion SymbolFits (map symbol_view symbols.now)) }
-    ensures bytes { OnOk result (bytes.new.items ≡ bytes.old.items ++ flat_map (symbol_bytes (texts_in places.now.strings)) (map symbol_view symbols.now)) }
+    requires places { places.now.symbols.items ≡ symbol_places (texts_in places.now.strings) (map S.view symbols.now) }
+    requires offsets { 4 + length (string_bytes (texts_in places.now.strings)) < 2 ^ 32 }
+    requires few { AllByRecursion (λ (s : format.Symbol). aux_records big s < 2 ^ 8) (map S.view symbols.now) }
+    requires near { AllByRecursion (λ (s : format.Symbol). section_number big s.section < number_limit big) (map S.view symbols.now) }
+    ensures fits { OnOk result (AllByRecursion SymbolFits (map S.view symbols.now)) }
+    ensures bytes { OnOk result (bytes.new.items ≡ bytes.old.items ++ flat_map (symbol_bytes big (texts_in places.now.strings)) (map S.view symbols.now)) }
 {
     for (symbol, place) in symbols.iter().zip(places.symbols.as_slice()) {
-        push_symbol(bytes, *place, symbol)?;
+        push_symbol(bytes, big, *place, symbol.wide())?;
     }
     Ok(())
 }
 
 /// Whether there are symbols or strings.
-fn has_strings<A: Allocator + Copy>(object: &Object<A>, strings: &StringTable<A>) -> bool
-    requires { texts_in strings.now ≡ strings_of (object_view object.now) }
-    ensures { result ≡ has_strings (object_view object.now) }
+fn has_strings<A: Allocator + Copy, S: WideSymbol>(
+    object: &Parts<'_, '_, A, S>,
+    strings: &StringTable<A>,
+) -> bool
+    requires { texts_in strings.now ≡ strings_of (parts_view S.view object.now) }
+    ensures { result ≡ has_strings (parts_view S.view object.now) }
 {
-    !object.symbols.as_slice().is_empty() || !strings.is_empty()
+    !object.symbols.is_empty() || !strings.is_empty()
 }
 
 /// The size of the string table in bytes, with its size field; 0 if there is none.
-fn table_size<A: Allocator + Copy>(object: &Object<A>, strings: &StringTable<A>) -> u64
-    requires { texts_in strings.now ≡ strings_of (object_view object.now) }
-    ensures { result ≡ counted (length (string_table (object_view object.now))) }
+fn table_size<A: Allocator + Copy, S: WideSymbol>(
+    object: &Parts<'_, '_, A, S>,
+    strings: &StringTable<A>,
+) -> u64
+    requires { texts_in strings.now ≡ strings_of (parts_view S.view object.now) }
+    ensures { result ≡ counted (length (string_table (parts_view S.view object.now))) }
 {
     if has_strings(object, strings) {
         strings.size()
@@ -143,71 +166,182 @@ fn table_size<A: Allocator + Copy>(object: &Object<A>, strings: &StringTable<A>)
     }
 }
 
-/// The size of the written object in bytes.
-fn written_size<A: Allocator + Copy>(object: &Object<A>, strings: &StringTable<A>) -> u64
-    requires texts { texts_in strings.now ≡ strings_of (object_view object.now) }
-    requires near { AllByRecursion (λ (s : format.Section). is_far (strings_of (object_view object.now)) s ≡ false) (object_view object.now).sections }
-    ensures { result ≡ counted (length (canon (object_view object.now))) }
+/// The size of the header and of the optional header in bytes.
+fn header_size<A: Allocator + Copy, S: WideSymbol>(object: &Parts<'_, '_, A, S>) -> u64
+    ensures { result ≡ header_len object.now.big + length (optional_of object.now.big (parts_view S.view object.now)) }
 {
-    let sections = object.sections.as_slice();
+    if object.big {
+        return 56;
+    }
+    20 + object.optional.len() as u64
+}
+
+/// The most sections that the form counts.
+fn most_sections(big: bool) -> u64
+    ensures { result ≡ form.most_sections big }
+{
+    if big { 0xffff_ffff } else { 0xffff }
+}
+
+/// The size of the written object in bytes.
+fn written_size<A: Allocator + Copy, S: WideSymbol>(
+    object: &Parts<'_, '_, A, S>,
+    strings: &StringTable<A>,
+) -> u64
+    requires texts { texts_in strings.now ≡ strings_of (parts_view S.view object.now) }
+    requires near { AllByRecursion (λ (s : format.Section). is_far (strings_of (parts_view S.view object.now)) s ≡ false) (parts_view S.view object.now).sections }
+    ensures { result ≡ counted (length (written.canon object.now.big (parts_view S.view object.now))) }
+{
+    let sections = object.sections;
     let table = (sections.len() as u64).saturating_mul(40);
-    (20 + object.optional.len() as u64)
+    header_size(object)
         .saturating_add(table)
         .saturating_add(bodies_size(sections))
-        .saturating_add(symbols_size(object.symbols.as_slice()))
+        .saturating_add(symbols_size(object.big, object.symbols))
         .saturating_add(table_size(object, strings))
 }
 
-/// Whether the object does not fit the format: fault 85.
-fn is_bad_object<A: Allocator + Copy>(object: &Object<A>) -> bool
-    requires { length (canon (object_view object.now)) < 2 ^ 32 }
-    ensures { result ≡ is_bad_object (object_view object.now) }
+/// Whether the header does not fit the form: the optional header, or what a big object does not store.
+fn is_bad_header<A: Allocator + Copy, S: WideSymbol>(object: &Parts<'_, '_, A, S>) -> bool
+    ensures { result ≡ is_bad_header object.now.big (parts_view S.view object.now) }
 {
-    let count = object.sections.as_slice().len();
-    if object.optional.len() > 65_535 || count > 65_535 {
-        return true;
+    if object.big {
+        !object.optional.is_empty() || object.characteristics != 0
+    } else {
+        object.optional.len() > 65_535
     }
-    let (machine, time_stamp) = (object.machine, object.time_stamp);
-    if is_other_header(machine, count as u16, time_stamp) {
-        return true;
-    }
-    has_bad_part(object, record_count(object.symbols.as_slice()))
 }
 
-/// Adds the COFF header; `symbols_at` is the file offset of the symbol table, or 0 without symbols and strings.
-fn push_coff_header<A: Allocator + Copy>(
+/// Whether the written object would begin as a file of another kind, if its sections are few enough.
+fn is_misread<A: Allocator + Copy, S: WideSymbol>(object: &Parts<'_, '_, A, S>) -> bool
+    requires { length object.now.sections.now ≤ form.most_sections object.now.big }
+    ensures { result ≡ form.is_misread object.now.big (parts_view S.view object.now) }
+{
+    if object.big {
+        return false;
+    }
+    let count = object.sections.len() as u16;
+    is_other_header(object.machine, count, object.time_stamp)
+}
+
+/// Whether the object does not fit the form: fault 85.
+fn is_bad_object<A: Allocator + Copy, S: WideSymbol>(object: &Parts<'_, '_, A, S>) -> bool
+    requires { length (written.canon object.now.big (parts_view S.view object.now)) < 2 ^ 32 }
+    ensures { result ≡ is_bad_object object.now.big (parts_view S.view object.now) }
+{
+    if is_bad_header(object) {
+        return true;
+    }
+    if object.sections.len() as u64 > most_sections(object.big) {
+        return true;
+    }
+    if is_misread(object) {
+        return true;
+    }
+    let records = record_count(object.big, object.symbols);
+    has_bad_item(object.big, object.sections, object.symbols, records)
+}
+
+/// Adds the header of a plain object; `symbols_at` is the file offset of the symbol table, or 0 without symbols and strings.
+fn push_plain_header<A: Allocator + Copy, S: WideSymbol>(
     bytes: &mut Vec<u8, A>,
-    object: &Object<A>,
+    object: &Parts<'_, '_, A, S>,
     symbols_at: u32,
 ) -> Result<(), AllocError>
-    requires start { symbols_at ≡ (if has_strings (object_view object.now) then symbols_start (object_view object.now) else 0) }
-    requires form { IsWritable (object_view object.now) }
-    ensures fits { OnOk result (HeaderFits (object_view object.now)) }
-    ensures bytes { OnOk result (bytes.new.items ≡ bytes.old.items ++ coff_header (object_view object.now)) }
+    requires start { symbols_at ≡ symbols_pointer false (parts_view S.view object.now) }
+    requires form { IsWritable false (parts_view S.view object.now) }
+    ensures fits { OnOk result (HeaderFits (parts_view S.view object.now)) }
+    ensures bytes { OnOk result (bytes.new.items ≡ bytes.old.items ++ coff_header false (parts_view S.view object.now)) }
 {
     push_numbers(
         bytes,
         &[
             U16(object.machine),
-            U16(object.sections.as_slice().len() as u16),
+            U16(object.sections.len() as u16),
             U32(object.time_stamp),
             U32(symbols_at),
-            U32(record_count(object.symbols.as_slice()) as u32),
+            U32(record_count(false, object.symbols) as u32),
             U16(object.optional.len() as u16),
             U16(object.characteristics),
         ],
     )
 }
 
-/// Adds the string table.
-fn push_strings<A: Allocator + Copy>(
+/// Adds the header of a big object; `symbols_at` is the file offset of the symbol table, or 0 without symbols and strings.
+fn push_big_header<A: Allocator + Copy, S: WideSymbol>(
     bytes: &mut Vec<u8, A>,
-    object: &Object<A>,
+    object: &Parts<'_, '_, A, S>,
+    symbols_at: u32,
+) -> Result<(), AllocError>
+    requires start { symbols_at ≡ symbols_pointer true (parts_view S.view object.now) }
+    requires form { IsWritable true (parts_view S.view object.now) }
+    ensures fits { OnOk result (HeaderFits (parts_view S.view object.now)) }
+    ensures bytes { OnOk result (bytes.new.items ≡ bytes.old.items ++ coff_header true (parts_view S.view object.now)) }
+{
+    let [class_0, class_1, class_2, class_3] = BIG_CLASS;
+    push_numbers(
+        bytes,
+        &[
+            U16(0),
+            U16(0xffff),
+            U16(2),
+            U16(object.machine),
+            U32(object.time_stamp),
+            U32(class_0),
+            U32(class_1),
+            U32(class_2),
+            U32(class_3),
+            U32(0),
+            U32(0),
+            U32(0),
+            U32(0),
+            U32(object.sections.len() as u32),
+            U32(symbols_at),
+            U32(record_count(true, object.symbols) as u32),
+        ],
+    )
+}
+
+/// Adds the header; `symbols_at` is the file offset of the symbol table, or 0 without symbols and strings.
+fn push_header<A: Allocator + Copy, S: WideSymbol>(
+    bytes: &mut Vec<u8, A>,
+    object: &Parts<'_, '_, A, S>,
+    symbols_at: u32,
+) -> Result<(), AllocError>
+    requires start { symbols_at ≡ symbols_pointer object.now.big (parts_view S.view object.now) }
+    requires form { IsWritable object.now.big (parts_view S.view object.now) }
+    ensures fits { OnOk result (HeaderFits (parts_view S.view object.now)) }
+    ensures bytes { OnOk result (bytes.new.items ≡ bytes.old.items ++ coff_header object.now.big (parts_view S.view object.now)) }
+{
+    if object.big {
+        push_big_header(bytes, object, symbols_at)
+    } else {
+        push_plain_header(bytes, object, symbols_at)
+    }
+}
+
+/// Adds the optional header, which a big object has not.
+fn push_optional<A: Allocator + Copy, S: WideSymbol>(
+    bytes: &mut Vec<u8, A>,
+    object: &Parts<'_, '_, A, S>,
+) -> Result<(), AllocError>
+    ensures { OnOk result (bytes.new.items ≡ bytes.old.items ++ optional_of object.now.big (parts_view S.view object.now)) }
+{
+    if object.big {
+        return Ok(());
+    }
+    bytes.extend_from_slice(object.optional)
+}
+
+/// Adds the string table.
+fn push_strings<A: Allocator + Copy, S: WideSymbol>(
+    bytes: &mut Vec<u8, A>,
+    object: &Parts<'_, '_, A, S>,
     strings: &StringTable<A>,
 ) -> Result<(), AllocError>
-    requires texts { texts_in strings.now ≡ strings_of (object_view object.now) }
+    requires texts { texts_in strings.now ≡ strings_of (parts_view S.view object.now) }
     requires small { 4 + length (string_bytes (texts_in strings.now)) < 2 ^ 32 }
-    ensures { OnOk result (bytes.new.items ≡ bytes.old.items ++ string_table (object_view object.now)) }
+    ensures { OnOk result (bytes.new.items ≡ bytes.old.items ++ string_table (parts_view S.view object.now)) }
 {
     if !has_strings(object, strings) {
         return Ok(());
@@ -217,34 +351,37 @@ fn push_strings<A: Allocator + Copy>(
 }
 
 /// Where the bodies of an object's sections begin in its written form: after the section table.
-fn bodies_start<A: Allocator + Copy>(object: &Object<A>) -> u32
-    requires { IsWritable (object_view object.now) }
-    ensures { result ≡ bodies_start (object_view object.now) }
+fn bodies_start<A: Allocator + Copy, S: WideSymbol>(object: &Parts<'_, '_, A, S>) -> u32
+    requires { IsWritable object.now.big (parts_view S.view object.now) }
+    ensures { result ≡ bodies_start object.now.big (parts_view S.view object.now) }
 {
-    20 + object.optional.len() as u32 + 40 * object.sections.as_slice().len() as u32
+    header_size(object) as u32 + 40 * object.sections.len() as u32
 }
 
 /// PointerToSymbolTable of an object.
-fn symbols_pointer<A: Allocator + Copy>(object: &Object<A>, strings: &StringTable<A>) -> u32
-    requires texts { texts_in strings.now ≡ strings_of (object_view object.now) }
-    requires form { IsWritable (object_view object.now) }
-    ensures { result ≡ (if has_strings (object_view object.now) then symbols_start (object_view object.now) else 0) }
+fn symbols_pointer<A: Allocator + Copy, S: WideSymbol>(
+    object: &Parts<'_, '_, A, S>,
+    strings: &StringTable<A>,
+) -> u32
+    requires texts { texts_in strings.now ≡ strings_of (parts_view S.view object.now) }
+    requires form { IsWritable object.now.big (parts_view S.view object.now) }
+    ensures { result ≡ symbols_pointer object.now.big (parts_view S.view object.now) }
 {
     if has_strings(object, strings) {
-        bodies_start(object) + bodies_size(object.sections.as_slice()) as u32
+        bodies_start(object) + bodies_size(object.sections) as u32
     } else {
         0
     }
 }
 
 /// The size of the written object in bytes, or fault 84 or 85.
-fn check_form<A: Allocator + Copy>(
-    object: &Object<A>,
+fn check_form<A: Allocator + Copy, S: WideSymbol>(
+    object: &Parts<'_, '_, A, S>,
     strings: &StringTable<A>,
 ) -> Result<usize, Fault>
-    requires texts { texts_in strings.now ≡ strings_of (object_view object.now) }
-    requires near { AllByRecursion (λ (s : format.Section). is_far (strings_of (object_view object.now)) s ≡ false) (object_view object.now).sections }
-    ensures { Answers (form_tests (object_view object.now)) (λ size. size ≡ length (canon (object_view object.now))) result }
+    requires texts { texts_in strings.now ≡ strings_of (parts_view S.view object.now) }
+    requires near { AllByRecursion (λ (s : format.Section). is_far (strings_of (parts_view S.view object.now)) s ≡ false) (parts_view S.view object.now).sections }
+    ensures { Answers (form_tests object.now.big (parts_view S.view object.now)) (λ size. size ≡ length (written.canon object.now.big (parts_view S.view object.now))) result }
 {
     let size = written_size(object, strings);
     if size > u64::from(u32::MAX) {
@@ -257,29 +394,41 @@ fn check_form<A: Allocator + Copy>(
 }
 
 /// The file of an object without a fault, of `size` bytes, which are allocated at once.
-fn write_parts<A: Allocator + Copy>(
+fn write_parts<A: Allocator + Copy, S: WideSymbol>(
     alloc: A,
-    object: &Object<A>,
+    object: &Parts<'_, '_, A, S>,
     places: &NamePlaces<A>,
     size: usize,
 ) -> Result<Vec<u8, A>, AllocError>
-    requires places { ArePlacesOf (object_view object.now) places.now }
-    requires form { IsWritable (object_view object.now) }
-    ensures fits { OnOk result (Fits (object_view object.now)) }
-    ensures bytes { IfOk result (λ bytes. bytes.items ≡ canon (object_view object.now)) }
+    requires places { ArePlacesOf (parts_view S.view object.now) places.now }
+    requires form { IsWritable object.now.big (parts_view S.view object.now) }
+    ensures fits { OnOk result (Fits (parts_view S.view object.now)) }
+    ensures bytes { IfOk result (λ bytes. bytes.items ≡ written.canon object.now.big (parts_view S.view object.now)) }
 {
     let mut bytes = Vec::with_capacity(alloc, size)?;
-    push_coff_header(&mut bytes, object, symbols_pointer(object, &places.strings))?;
-    bytes.extend_from_slice(object.optional)?;
-    push_table(
-        &mut bytes,
-        places,
-        bodies_start(object),
-        object.sections.as_slice(),
-    )?;
-    push_bodies(&mut bytes, object.sections.as_slice())?;
-    push_symbols(&mut bytes, places, object.symbols.as_slice())?;
+    push_header(&mut bytes, object, symbols_pointer(object, &places.strings))?;
+    push_optional(&mut bytes, object)?;
+    push_table(&mut bytes, places, bodies_start(object), object.sections)?;
+    push_bodies(&mut bytes, object.sections)?;
+    push_symbols(&mut bytes, object.big, places, object.symbols)?;
     push_strings(&mut bytes, object, &places.strings)?;
+    Ok(bytes)
+}
+
+/// The file of an object that is written plain or big, or the least of faults 81 to 85, or out of memory.
+fn write_form<A: Allocator + Copy, S: WideSymbol>(
+    alloc: A,
+    object: &Parts<'_, '_, A, S>,
+) -> Result<Vec<u8, A>, ObjectError>
+    ensures exact { AnswersOrWants (form.write_tests object.now.big (parts_view S.view object.now)) (λ bytes. bytes.items ≡ written.canon object.now.big (parts_view S.view object.now)) result }
+    ensures read_back { IfOk result (λ bytes. form_faults.IsObjectOf object.now.big bytes.items (parts_view S.view object.now)) }
+    ensures early { (fault : code_fault.Fault) → first_standing (name_tests (parts_view S.view object.now)) ≡ Some fault → result ≡ Err (Refusal.Fault fault) }
+{
+    check_names(object)?;
+    let places = place_names(alloc, object)?;
+    check_sections(object, &places)?;
+    let size = check_form(object, &places.strings)?;
+    let bytes = write_parts(alloc, object, &places, size)?;
     Ok(bytes)
 }
 
@@ -296,10 +445,40 @@ pub fn write_object<A: Allocator + Copy>(
     ensures read_back { IfOk result (λ bytes. IsObjectOf bytes.items (object_view object.now)) }
     ensures early { (fault : code_fault.Fault) → first_standing (name_tests (object_view object.now)) ≡ Some fault → result ≡ Err (Refusal.Fault fault) }
 {
-    check_names(object)?;
-    let places = place_names(alloc, object)?;
-    check_sections(object, &places)?;
-    let size = check_form(object, &places.strings)?;
-    let bytes = write_parts(alloc, object, &places, size)?;
-    Ok(bytes)
+    let parts = Parts {
+        big: false,
+        machine: object.machine,
+        time_stamp: object.time_stamp,
+        characteristics: object.characteristics,
+        optional: object.optional,
+        sections: object.sections.as_slice(),
+        symbols: object.symbols.as_slice(),
+    };
+    write_form(alloc, &parts)
+}
+
+/// The file of a big object (`/bigobj`), or the least of faults 81 to 85, or out of memory.
+///
+/// The parts are those that [`write_object`] writes, in the same order, with the header and the symbols of a big object, which has no
+/// optional header. An object with an optional header or with Characteristics has no such form, which is fault 85. An object with
+/// fault 81 is refused before anything is allocated. ("PE Format": Section Table, COFF Relocations, COFF Symbol Table, COFF String
+/// Table.)
+pub fn write_big_object<A: Allocator + Copy>(
+    alloc: A,
+    object: &BigObject<A>,
+) -> Result<Vec<u8, A>, ObjectError>
+    ensures exact { AnswersOrWants (form.write_tests Big (big_object_view object.now)) (λ bytes. bytes.items ≡ written.canon Big (big_object_view object.now)) result }
+    ensures read_back { IfOk result (λ bytes. form_faults.IsObjectOf Big bytes.items (big_object_view object.now)) }
+    ensures early { (fault : code_fault.Fault) → first_standing (name_tests (big_object_view object.now)) ≡ Some fault → result ≡ Err (Refusal.Fault fault) }
+{
+    let parts = Parts {
+        big: true,
+        machine: object.machine,
+        time_stamp: object.time_stamp,
+        characteristics: object.characteristics,
+        optional: object.optional,
+        sections: object.sections.as_slice(),
+        symbols: object.symbols.as_slice(),
+    };
+    write_form(alloc, &parts)
 }

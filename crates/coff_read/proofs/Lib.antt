@@ -1,10 +1,15 @@
+pub mod BigRows
 pub mod Digits
+pub mod EitherFile
+pub mod FormTable
 pub mod ImageSymbolRows
 pub mod ImageSymbolSteps
 pub mod Mapped
+pub mod PlainForm
 pub mod RecordPlaces
 pub mod StringPlaces
 pub mod SymbolSteps
+pub mod TablesThere
 pub mod TextsEnd
 pub mod Walk
 pub mod WholeTable

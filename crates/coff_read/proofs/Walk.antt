@@ -10,8 +10,12 @@ use Rattle.pe_view.specs.Faults.{Test, first_standing}
 use Rattle.pe_view.specs.FirstStanding.{first-in, first-past, none-append, none_stands}
 use Rattle.pe_view.specs.declared.fault.Fault as view
 use Rattle.coff_read.specs.Field.{field}
-use Rattle.coff_read.specs.ObjectFaults.{section_tests}
-use Rattle.coff_read.specs.Reading.{aux_count, symbols_from, relocation_start}
+use Rattle.coff_read.specs.FormFaults.{section_tests}
+use Rattle.coff_read.specs.FormReading.{aux_count, symbols_from}
+use Rattle.coff_read.specs.Forms.{Form, Plain}
+use Rattle.coff_read.specs.Reading as plain
+use Rattle.coff_read.specs.Reading.{relocation_start}
+use Rattle.coff_read.proofs.PlainForm.{same_step}
 
 -- the indexes that are left, from one of them on
 pub range_left : (i n : ℕ) → i < n → range_with_len i (n - i) ≡ i ∷ range_with_len (i + 1) (n - (i + 1))
@@ -35,30 +39,35 @@ read_more view read h old new x left more whole is pushed same inv =
     ∙ append_assoc (map view old) (view x ∷ []) (map read more) ∙ ap (λ (z : _). map view old ++ z ∷ map read more) same ∙ ap (λ (hs : List ℕ). map view old ++ map read hs) (sym is) ∙ inv
 
 -- auxiliary records begin no symbol
-symbols-skip : (file : List ℕ) (k left skip : ℕ) → symbols_from file k (skip + left) skip ≡ symbols_from file (k + skip) left 0
-symbols-skip file k left zero =
+symbols-skip : (big : Form) (file : List ℕ) (k left skip : ℕ) → symbols_from big file k (skip + left) skip ≡ symbols_from big file (k + skip) left 0
+symbols-skip big file k left zero =
     let a : 0 + left ≡ left = omega arith in
     let b : k ≡ k + 0 = omega arith in
-    ap (λ (n : ℕ). symbols_from file k n 0) a ∙ ap (λ (n : ℕ). symbols_from file n left 0) b
-symbols-skip file k left (suc skip) =
+    ap (λ (n : ℕ). symbols_from big file k n 0) a ∙ ap (λ (n : ℕ). symbols_from big file n left 0) b
+symbols-skip big file k left (suc skip) =
     let a : suc skip + left ≡ suc (skip + left) = omega arith in
     let b : k + 1 + skip ≡ k + suc skip = omega arith in
-    ap (λ (n : ℕ). symbols_from file k n (suc skip)) a ∙ symbols-skip file (k + 1) left skip ∙ ap (λ (n : ℕ). symbols_from file n left 0) b
+    ap (λ (n : ℕ). symbols_from big file k n (suc skip)) a ∙ symbols-skip big file (k + 1) left skip ∙ ap (λ (n : ℕ). symbols_from big file n left 0) b
 
-pub symbols-step : (file : List ℕ) (k left : ℕ) → symbols_from file k (1 + aux_count file k + left) 0 ≡ k ∷ symbols_from file (k + 1 + aux_count file k) left 0
-symbols-step file k left =
-    let a : 1 + aux_count file k + left ≡ suc (aux_count file k + left) = omega arith in
-    ap (λ (n : ℕ). symbols_from file k n 0) a ∙ ap (λ (ks : List ℕ). k ∷ ks) (symbols-skip file (k + 1) left (aux_count file k))
+pub form_symbols-step : (big : Form) (file : List ℕ) (k left : ℕ) → symbols_from big file k (1 + aux_count big file k + left) 0 ≡ k ∷ symbols_from big file (k + 1 + aux_count big file k) left 0
+form_symbols-step big file k left =
+    let a : 1 + aux_count big file k + left ≡ suc (aux_count big file k + left) = omega arith in
+    ap (λ (n : ℕ). symbols_from big file k n 0) a ∙ ap (λ (ks : List ℕ). k ∷ ks) (symbols-skip big file (k + 1) left (aux_count big file k))
+
+-- of a plain object
+pub symbols-step : (file : List ℕ) (k left : ℕ) → plain.symbols_from file k (1 + plain.aux_count file k + left) 0 ≡ k ∷ plain.symbols_from file (k + 1 + plain.aux_count file k) left 0
+symbols-step file k left = same_step file _ _ _ _ (form_symbols-step Plain file k left)
 
 -- the records after a symbol's auxiliary ones
-pub symbols_next : (file : List ℕ) (k next records : ℕ) → next ≡ k + 1 + aux_count file k → next ≤ records → symbols_from file k (records - k) 0 ≡ k ∷ symbols_from file next (records - next) 0
-symbols_next file k next records is within =
-    let left : records - k ≡ 1 + aux_count file k + (records - next) = omega arith in
-    ap (λ (n : ℕ). symbols_from file k n 0) left ∙ symbols-step file k (records - next) ∙ ap (λ (n : ℕ). k ∷ symbols_from file n (records - next) 0) (sym is)
+pub symbols_next : (big : Form) (file : List ℕ) (k next records : ℕ) → next ≡ k + 1 + aux_count big file k → next ≤ records
+    → symbols_from big file k (records - k) 0 ≡ k ∷ symbols_from big file next (records - next) 0
+symbols_next big file k next records is within =
+    let left : records - k ≡ 1 + aux_count big file k + (records - next) = omega arith in
+    ap (λ (n : ℕ). symbols_from big file k n 0) left ∙ form_symbols-step big file k (records - next) ∙ ap (λ (n : ℕ). k ∷ symbols_from big file n (records - next) 0) (sym is)
 
 -- the record that is read begins a symbol
-pub symbols_some : (file : List ℕ) (k records : ℕ) → k < records → symbols_from file k (records - k) 0 ≡ k ∷ symbols_from file (k + 1) (records - (k + 1)) (aux_count file k)
-symbols_some file k records lt = ap (λ (n : ℕ). symbols_from file k n 0) (let left : records - k ≡ suc (records - (k + 1)) = omega arith in left)
+pub symbols_some : (big : Form) (file : List ℕ) (k records : ℕ) → k < records → symbols_from big file k (records - k) 0 ≡ k ∷ symbols_from big file (k + 1) (records - (k + 1)) (aux_count big file k)
+symbols_some big file k records lt = ap (λ (n : ℕ). symbols_from big file k n 0) (let left : records - k ≡ suc (records - (k + 1)) = omega arith in left)
 
 -- the current record passes its one test
 pub pass_test : (test : ℕ → Test) (k n : ℕ) (whole : Option view.Fault) → k < n → (test k).stands ≡ false → first_standing (map test (range_with_len k (n - k))) ≡ whole
@@ -68,15 +77,19 @@ pass_test test k n whole lt none inv =
     ap (λ (ks : List ℕ). first_standing (map test ks)) (range_left k n lt) ∙ rw none refl in
     sym step ∙ inv
 
+-- the current record does not pass its one test
+pub stop_test : (test : ℕ → Test) (k n : ℕ) (whole : Option view.Fault) → k < n → (test k).stands ≡ true → first_standing (map test (range_with_len k (n - k))) ≡ whole → whole ≡ Some (test k).fault
+stop_test test k n whole lt stands inv = sym inv ∙ ap (λ (ks : List ℕ). first_standing (map test ks)) (range_left k n lt) ∙ rw stands refl
+
 pub all_read : {Y : Type 0} (read : ℕ → Y) (start : ℕ → ℕ) (i n : ℕ) (front whole : List Y) → n ≤ i → front ++ map read (map start (range_with_len i (n - i))) ≡ whole → front ≡ whole
 all_read read start i n front whole le inv =
     let none : n - i ≡ 0 = omega arith in
     sym (append-nil front) ∙ sym (ap (λ (k : ℕ). front ++ map read (map start (range_with_len i k))) none) ∙ inv
 
 -- a section without a fault has its relocations in the file
-pub relocations_fit : (file : List ℕ) (h : ℕ) → first_standing (section_tests file h) ≡ None → 0 < field file h 32 2 → relocation_start file h (field file h 32 2) ≤ length file
-relocations_fit file h none some =
-    let test = none_stands (section_tests file h) 2 _ none refl in
+pub relocations_fit : (big : Form) (file : List ℕ) (h : ℕ) → first_standing (section_tests big file h) ≡ None → 0 < field file h 32 2 → relocation_start file h (field file h 32 2) ≤ length file
+relocations_fit big file h none some =
+    let test = none_stands (section_tests big file h) 2 _ none refl in
     let count : not (field file h 32 2 == 0) ≡ true = ap not (ne_eqb (field file h 32 2) 0 (λ e. omega arith)) in
     let past : nat_lt (length file) (relocation_start file h (field file h 32 2)) ≡ false = rw count at test in
     ltb-false (length file) (relocation_start file h (field file h 32 2)) past

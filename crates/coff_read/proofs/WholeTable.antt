@@ -1,15 +1,17 @@
 -- The symbols of an accepted file, with their auxiliary records, are all records of its table.
-use Rattle.std.proofs.Common.{◌≡◌, ◌∙◌, ℕ, zero, suc, ◌+◌, ◌*◌, ◌^◌, ◌<◌, ◌≤◌, Bool, false, List, ◌++◌, length, take, drop, None, refl, sym, ap, arith, inl, inr}
-use Rattle.std.specs.Prelude.{map, not, nat_lt, ◌==◌, ◌&&◌}
+use Rattle.std.proofs.Common.{◌≡◌, ◌∙◌, ℕ, zero, suc, ◌+◌, ◌*◌, ◌^◌, ◌<◌, ◌≤◌, List, ◌++◌, length, take, drop, None, refl, sym, ap, arith}
+use Rattle.std.specs.Prelude.{map, nat_lt}
 use Rattle.std.specs.List.{flat_map}
-use Rattle.std.proofs.lemmas.Bool.{cases_Bool, or_parts, ltb-false, eqb-true}
+use Rattle.std.proofs.lemmas.Bool.{or_parts, ltb-false}
 use Rattle.std.proofs.lemmas.List.{length-drop, length-take-le}
 use Rattle.pe_view.specs.Faults.{first_standing}
 use Rattle.pe_view.specs.FirstStanding.{none-append, none_stands}
-use Rattle.coff_read.specs.ObjectFaults.{header_tests, symbol_table_tests, section_tests, symbol_tests, relocation_tests, record_tests, object_tests}
+use Rattle.coff_read.specs.ObjectFaults.{header_tests, symbol_table_tests, section_tests, symbol_tests, record_tests, object_tests}
 use Rattle.coff_read.specs.Reading.{section_starts, record_start, aux_count, symbol_at, symbols_from, symbol_indexes, object_of}
-use Rattle.coff_read.specs.Strings.{symbol_pointer, record_count, strings_start}
+use Rattle.coff_read.specs.Strings.{record_count, strings_start}
 use Rattle.coff_read.specs.Records.{aux_records, records_of}
+use Rattle.coff_read.proofs.FormTable.{plain_stands}
+use Rattle.coff_read.proofs.PlainForm.{same_symbols}
 
 -- the auxiliary records of the symbol of a record lie in the file
 pub aux_inside : (file : List ℕ) (k : ℕ) → strings_start file ≤ length file → k + 1 + aux_count file k ≤ record_count file → aux_records (symbol_at file (record_start file k)) ≡ aux_count file k
@@ -35,18 +37,6 @@ counted file k (suc left) zero le end inside none =
     let aux = aux_inside file k inside (omega arith) in
     omega arith
 
--- the symbol table lies in the file
-table_inside : (file : List ℕ) → (not (symbol_pointer file == 0) && nat_lt (length file) (strings_start file)) ≡ false → strings_start file ≤ length file
-table_inside file none = elim (cases_Bool (symbol_pointer file == 0)) [
-  | inl missing ↦
-      (let zero_at = eqb-true (symbol_pointer file) 0 missing in
-      let no_records : record_count file ≡ 0 = rw missing refl in
-      omega arith)
-  | inr there ↦
-      (let inside : nat_lt (length file) (strings_start file) ≡ false = sym (ap (λ (b : Bool). not b && nat_lt (length file) (strings_start file)) there) ∙ none in
-      ltb-false (length file) (strings_start file) inside)
-]
-
 -- the symbol table lies in the file, and no section or symbol has a fault
 pub record TableStands (file : List ℕ) : Type 0 where
   pub inside : strings_start file ≤ length file
@@ -54,13 +44,9 @@ pub record TableStands (file : List ℕ) : Type 0 where
   pub symbols : first_standing (flat_map (symbol_tests file) (symbol_indexes file)) ≡ None
 
 pub table_stands : (file : List ℕ) → first_standing (object_tests file) ≡ None → TableStands file
-unfolding object_tests record_tests
 table_stands file none =
-    let parts = none-append (header_tests file) (symbol_table_tests file ++ record_tests file) none in
-    let tables = none-append (symbol_table_tests file) (record_tests file) parts.1 in
-    let sections = none-append (flat_map (section_tests file) (section_starts file)) (flat_map (symbol_tests file) (symbol_indexes file) ++ flat_map (relocation_tests file) (section_starts file)) tables.1 in
-    let symbols = none-append (flat_map (symbol_tests file) (symbol_indexes file)) (flat_map (relocation_tests file) (section_starts file)) sections.1 in
-    record { inside = table_inside file (none_stands (symbol_table_tests file) 0 _ tables.0 refl); sections = sections.0; symbols = symbols.0 }
+    let table = plain_stands file none in
+    record { inside = table.inside; sections = table.sections; symbols = sym (ap (λ (ks : List ℕ). first_standing (flat_map (symbol_tests file) ks)) (same_symbols file)) ∙ table.symbols }
 
 pub record FillsTable (file : List ℕ) : Type 0 where
   pub records : records_of (object_of file).symbols ≡ record_count file

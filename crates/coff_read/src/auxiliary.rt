@@ -5,6 +5,7 @@ ghost use Rattle.pe_view.specs.View.{bytes_of, size_of};
 ghost use Rattle.coff_read.specs.Auxiliary.{aux_in, aux_of, aux_record, defines_function, function_of, section_of};
 ghost use Rattle.coff_read.specs.AuxiliaryView.{aux_view};
 ghost use Rattle.coff_read.specs.ObjectView.{object_view, symbol_view};
+ghost use Rattle.coff_read.specs.Records as format;
 ghost use Rattle.coff_read.specs.Records.{aux_records};
 
 use crate::fields::{u8_in, u16_in, u32_in};
@@ -15,10 +16,10 @@ use pe_view::View;
 use std::alloc::Allocator;
 
 /// The size of an auxiliary record in bytes.
-const AUX_LEN: usize = 18;
+pub(crate) const AUX_LEN: usize = 18;
 
 /// The type of a function symbol.
-const FUNCTION_TYPE: u16 = 0x20;
+pub(crate) const FUNCTION_TYPE: u16 = 0x20;
 
 /// An auxiliary record ("PE Format", Auxiliary Symbol Records), in the shape of its symbol's class.
 #[derive(Clone, Copy, Debug, PartialEq, Eq)]
@@ -70,7 +71,7 @@ pub enum Aux<'a> {
     },
     /// After every other symbol.
     Raw {
-        /// The record's 18 bytes.
+        /// The record's bytes: 18, and 20 of a big object.
         bytes: &'a [u8],
     },
 }
@@ -112,13 +113,13 @@ fn section_of<'a>(fields: View<'a>) -> Aux<'a>
     }
 }
 
-/// The record in these bytes, after a symbol.
-fn aux_of<'a>(symbol: &Symbol, bytes: &'a [u8]) -> Aux<'a>
-    requires { length bytes.now ≡ 18 }
-    ensures { aux_view result ≡ aux_of (symbol_view symbol.now) bytes.now }
+/// The record in these bytes, after a symbol of this class, which defines a function or not.
+pub(crate) fn aux_of<'a>(class: u8, is_function: bool, bytes: &'a [u8]) -> Aux<'a>
+    requires { 18 ≤ length bytes.now }
+    ensures { (symbol : format.Symbol) → symbol.class ≡ class → defines_function symbol ≡ is_function → aux_view result ≡ aux_of symbol bytes.now }
 {
     let fields = View::new(bytes);
-    match symbol.class {
+    match class {
         103 => Aux::File {
             name: up_to_zero(bytes),
         },
@@ -131,7 +132,7 @@ fn aux_of<'a>(symbol: &Symbol, bytes: &'a [u8]) -> Aux<'a>
             line: u16_in(fields, 0, 4),
             next: u32_in(fields, 0, 12),
         },
-        _ if defines_function(symbol) => function_of(fields),
+        _ if is_function => function_of(fields),
         _ => Aux::Raw { bytes },
     }
 }
@@ -154,7 +155,9 @@ impl<'a> Symbol<'a> {
         }
         let records = self.aux;
         let start = AUX_LEN * k;
-        Some(aux_of(self, &records[start..start + AUX_LEN]))
+        let is_function = defines_function(self);
+        let bytes = &records[start..start + AUX_LEN];
+        Some(aux_of(self.class, is_function, bytes))
     }
 }
 

@@ -4,8 +4,11 @@ ghost use Rattle.std.specs.Prelude.{◌≡◌, None, length, ⊤};
 ghost use Rattle.std.specs.List.{flat_map};
 ghost use Rattle.pe_view.specs.Faults.{Answers, first_standing};
 ghost use Rattle.pe_view.specs.View.{bytes_of};
-ghost use Rattle.coff_read.specs.ObjectFaults.{section_tests, relocation_tests, object_tests};
-ghost use Rattle.coff_read.specs.Reading.{section_starts, symbol_indexes};
+ghost use Rattle.coff_read.specs.FormFaults as form_faults;
+ghost use Rattle.coff_read.specs.FormReading as form;
+ghost use Rattle.coff_read.specs.Forms.{Plain};
+ghost use Rattle.coff_read.specs.ObjectFaults.{object_tests};
+ghost use Rattle.coff_read.specs.Reading.{symbol_indexes};
 ghost use Rattle.coff_read.specs.TablesPlace.{AreTables};
 
 use crate::fields::{u16_in, u32_in};
@@ -32,19 +35,22 @@ pub struct ObjectFile<'a> {
     pub(crate) view: View<'a>,
     pub(crate) tables: Tables,
     pub(crate) symbols: u64,
-    ghost stand: { AreTables (bytes_of view) tables },
+    ghost stand: { AreTables Plain (bytes_of view) tables },
     ghost counted: { symbols ≡ length (symbol_indexes (bytes_of view)) },
     ghost accepted: { first_standing (object_tests (bytes_of view)) ≡ None },
 }
 
 /// Tests fault 72 of all relocations, if no section has one of faults 64 to 69.
-fn check_all_relocations(view: View, tables: Tables) -> Result<(), Fault>
-    requires tables { AreTables (bytes_of view) tables }
-    requires sections { first_standing (flat_map (section_tests (bytes_of view)) (section_starts (bytes_of view))) ≡ None }
-    ensures { Answers (flat_map (relocation_tests (bytes_of view.entry)) (section_starts (bytes_of view.entry))) (λ _. ⊤) result }
+pub(crate) fn check_all_relocations<const BIG: bool>(
+    view: View,
+    tables: Tables,
+) -> Result<(), Fault>
+    requires tables { AreTables BIG (bytes_of view) tables }
+    requires sections { first_standing (flat_map (form_faults.section_tests BIG (bytes_of view)) (form.section_starts BIG (bytes_of view))) ≡ None }
+    ensures { Answers (flat_map (form_faults.relocation_tests BIG (bytes_of view.entry)) (form.section_starts BIG (bytes_of view.entry))) (λ _. ⊤) result }
 {
     for i in 0..tables.sections {
-        check_relocations(view, tables.headers + SECTION_LEN * i, tables.records)?;
+        check_relocations::<BIG>(view, tables, tables.headers + SECTION_LEN * i)?;
     }
     Ok(())
 }
@@ -69,11 +75,11 @@ impl<'a> ObjectFile<'a> {
         ensures { Answers (object_tests file.entry.now) (λ object. file_of object ≡ file.entry.now) result }
     {
         let view = View::new(file);
-        check_header(view)?;
-        let tables = read_tables(view)?;
-        check_sections(view, tables)?;
-        let symbols = check_symbols(view, tables)?;
-        check_all_relocations(view, tables)?;
+        check_header::<false>(view)?;
+        let tables = read_tables::<false>(view)?;
+        check_sections::<false>(view, tables)?;
+        let symbols = check_symbols::<false>(view, tables)?;
+        check_all_relocations::<false>(view, tables)?;
         Ok(ObjectFile {
             view,
             tables,
@@ -133,8 +139,8 @@ impl<'a> ObjectFile<'a> {
             return None;
         }
         let h = self.tables.headers + SECTION_LEN * index as u64;
-        let name = name_of(self.view, self.tables, section_name_field(self.view, h));
-        Some(section_at(self.view, h, name))
+        let name = name_of::<false>(self.view, self.tables, section_name_field(self.view, h));
+        Some(section_at::<false>(self.view, h, name))
     }
 
     /// The header of section `index` in table order, counted from 0, field by field; `None` exactly if there is no such one.
@@ -205,7 +211,7 @@ impl<'a> ObjectFile<'a> {
             time_stamp: self.time_stamp(),
             characteristics: self.characteristics(),
             optional: self.optional(),
-            sections: read_sections(alloc, &mut ends, self.view, self.tables)?,
+            sections: read_sections::<A, false>(alloc, &mut ends, self.view, self.tables)?,
             symbols: read_symbols(
                 alloc,
                 &mut ends,

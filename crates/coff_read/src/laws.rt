@@ -3,6 +3,7 @@
 ghost use Rattle.std.specs.Prelude.{◌≡◌, ◌↔◌, ◌<◌, ◌^◌, ℕ, List, None, Some};
 ghost use Rattle.pe_view.specs.Faults.{first_standing};
 ghost use Rattle.coff_read.specs.ObjectFaults.{object_tests};
+ghost use Rattle.coff_read.specs.PlainForm.{IsPlain};
 ghost use Rattle.coff_read.specs.Reading.{object_of};
 ghost use Rattle.coff_read.specs.RecordPlaces.{SymbolsBegin};
 ghost use Rattle.coff_read.specs.Records.{records_of};
@@ -24,4 +25,9 @@ pub fn strings_stand_at_their_offsets()
 pub fn symbols_fill_the_table()
     ensures whole { (file : List ℕ) → first_standing (object_tests file) ≡ None → records_of (object_of file).symbols ≡ record_count file }
     ensures few { (file : List ℕ) → first_standing (object_tests file) ≡ None → records_of (object_of file).symbols < 2 ^ 32 }
+{}
+
+/// What is read of a plain object, and its faults, are what the definitions of both forms say at the plain form.
+pub fn plain_objects_are_of_the_plain_form()
+    ensures { (file : List ℕ) → IsPlain file }
 {}

@@ -6,9 +6,10 @@ ghost use Rattle.std.specs.Option.{unwrap_or};
 ghost use Rattle.pe_view.specs.View.{bytes_of, size_of};
 ghost use Rattle.pe_view.specs.TextEnds.{AreEndsOf};
 ghost use Rattle.coff_read.specs.NameField.{name_in};
-ghost use Rattle.coff_read.specs.Names.{is_digit, decimal_value, up_to_zero, is_number_field, is_long, is_long_section_name, name_offset, section_name, symbol_name};
+ghost use Rattle.coff_read.specs.FormReading.{string_at, section_name, symbol_name};
+ghost use Rattle.coff_read.specs.Forms.{Form};
+ghost use Rattle.coff_read.specs.Names.{is_digit, decimal_value, up_to_zero, is_number_field, is_long, is_long_section_name, name_offset};
 ghost use Rattle.coff_read.specs.TablesPlace.{AreTables};
-ghost use Rattle.coff_read.specs.Strings.{string_at};
 
 use crate::fields::u32_in;
 use crate::tables::Tables;
@@ -110,9 +111,9 @@ pub(crate) fn name_offset(field: &[u8]) -> Option<u32>
 }
 
 /// The string at an offset of the string table.
-fn string_at<'a>(view: View<'a>, tables: Tables, offset: u32) -> Option<&'a [u8]>
-    requires { AreTables (bytes_of view) tables }
-    ensures { option_map (λ text. text.now) result ≡ string_at (bytes_of view.entry) offset }
+fn string_at<'a, const BIG: bool>(view: View<'a>, tables: Tables, offset: u32) -> Option<&'a [u8]>
+    requires { AreTables BIG (bytes_of view) tables }
+    ensures { option_map (λ text. text.now) result ≡ string_at BIG (bytes_of view.entry) offset }
 {
     if offset < 4 {
         return None;
@@ -122,8 +123,8 @@ fn string_at<'a>(view: View<'a>, tables: Tables, offset: u32) -> Option<&'a [u8]
 }
 
 /// Whether a name's offset leads to no string of the string table.
-pub(crate) fn has_no_text(tables: Tables, field: NameField) -> bool
-    ensures { (file : List ℕ) → AreTables file tables → result ≡ is_none (name_in file field.entry) }
+pub(crate) fn has_no_text<const BIG: bool>(tables: Tables, field: NameField) -> bool
+    ensures { (file : List ℕ) → AreTables BIG file tables → result ≡ is_none (name_in BIG file field.entry) }
 {
     match field {
         NameField::Inline(_) => false,
@@ -132,26 +133,30 @@ pub(crate) fn has_no_text(tables: Tables, field: NameField) -> bool
 }
 
 /// The name of a field, which is empty if it leads to no string. A string of the string table is searched for its terminator.
-pub(crate) fn name_of<'a>(view: View<'a>, tables: Tables, field: NameField<'a>) -> &'a [u8]
-    requires { AreTables (bytes_of view) tables }
-    ensures { result.now ≡ unwrap_or (name_in (bytes_of view.entry) field.entry) [] }
+pub(crate) fn name_of<'a, const BIG: bool>(
+    view: View<'a>,
+    tables: Tables,
+    field: NameField<'a>,
+) -> &'a [u8]
+    requires { AreTables BIG (bytes_of view) tables }
+    ensures { result.now ≡ unwrap_or (name_in BIG (bytes_of view.entry) field.entry) [] }
 {
     match field {
         NameField::Inline(name) => name,
-        NameField::Offset(offset) => string_at(view, tables, offset).unwrap_or(&[]),
+        NameField::Offset(offset) => string_at::<BIG>(view, tables, offset).unwrap_or(&[]),
     }
 }
 
 /// The name of a field, as [`name_of`] returns it. Where strings of the string table end is remembered.
-pub(crate) fn name_kept<'a, A: Allocator + Copy>(
+pub(crate) fn name_kept<'a, A: Allocator + Copy, const BIG: bool>(
     ends: &mut TextEnds<A>,
     view: View<'a>,
     tables: Tables,
     field: NameField<'a>,
 ) -> &'a [u8]
-    requires tables { AreTables (bytes_of view) tables }
+    requires tables { AreTables BIG (bytes_of view) tables }
     requires known { AreEndsOf (bytes_of view) ends.old }
-    ensures name { result.now ≡ unwrap_or (name_in (bytes_of view.entry) field.entry) [] }
+    ensures name { result.now ≡ unwrap_or (name_in BIG (bytes_of view.entry) field.entry) [] }
     ensures known { AreEndsOf (bytes_of view.entry) ends.new }
 {
     match field {
@@ -168,7 +173,7 @@ pub(crate) fn name_kept<'a, A: Allocator + Copy>(
 /// The contents of the name field of the section whose header is at a file offset.
 pub(crate) fn section_name_field<'a>(view: View<'a>, h: u64) -> NameField<'a>
     requires { h + 40 ≤ size_of view }
-    ensures { name_in (bytes_of view.entry) result ≡ section_name (bytes_of view.entry) h }
+    ensures { (big : Form) → name_in big (bytes_of view.entry) result ≡ section_name big (bytes_of view.entry) h }
 {
     let field = view.slice(h, NAME_LEN as u64).unwrap();
     match name_offset(field) {
@@ -180,7 +185,7 @@ pub(crate) fn section_name_field<'a>(view: View<'a>, h: u64) -> NameField<'a>
 /// The contents of the name field of the symbol whose record is at a file offset.
 pub(crate) fn symbol_name_field<'a>(view: View<'a>, at: u64) -> NameField<'a>
     requires { at + 18 ≤ size_of view }
-    ensures { name_in (bytes_of view.entry) result ≡ symbol_name (bytes_of view.entry) at }
+    ensures { (big : Form) → name_in big (bytes_of view.entry) result ≡ symbol_name big (bytes_of view.entry) at }
 {
     if u32_in(view, at, 0) != 0 {
         return NameField::Inline(up_to_zero(view.slice(at, NAME_LEN as u64).unwrap()));

@@ -7,10 +7,10 @@ ghost use Rattle.pe_view.specs.View.{bytes_of, size_of};
 ghost use Rattle.pe_view.specs.Faults.{Answers, first_standing};
 ghost use Rattle.pe_view.specs.TextEnds.{AreEndsOf};
 ghost use Rattle.coff_read.specs.FileView.{file_section_view};
-ghost use Rattle.coff_read.specs.Names.{section_name};
-ghost use Rattle.coff_read.specs.ObjectFaults.{section_tests};
+ghost use Rattle.coff_read.specs.FormFaults.{section_tests};
+ghost use Rattle.coff_read.specs.FormReading.{section_name, section_in, section_starts};
 ghost use Rattle.coff_read.specs.ObjectView.{raw_view, section_view};
-ghost use Rattle.coff_read.specs.Reading.{raw_at, is_absent, section_in, section_starts};
+ghost use Rattle.coff_read.specs.Reading.{raw_at, is_absent};
 ghost use Rattle.coff_read.specs.TablesPlace.{AreTables};
 
 use crate::error::file_fault;
@@ -86,10 +86,10 @@ fn raw_at<'a>(view: View<'a>, pointer: u32, size: u32, flags: u32) -> Option<Raw
 }
 
 /// Tests faults 64, 65, 66 and 69 of the section whose header is at a file offset.
-fn check_section(view: View, tables: Tables, h: u64) -> Result<(), Fault>
-    requires tables { AreTables (bytes_of view) tables }
+fn check_section<const BIG: bool>(view: View, tables: Tables, h: u64) -> Result<(), Fault>
+    requires tables { AreTables BIG (bytes_of view) tables }
     requires inside { h + 40 ≤ size_of view }
-    ensures { Answers (section_tests (bytes_of view.entry) h) (λ _. ⊤) result }
+    ensures { Answers (section_tests BIG (bytes_of view.entry) h) (λ _. ⊤) result }
 {
     let (pointer, size, flags) = (
         u32_in(view, h, 20),
@@ -107,29 +107,33 @@ fn check_section(view: View, tables: Tables, h: u64) -> Result<(), Fault>
     if count != 0 && start + RELOCATION_LEN * count > view.len() {
         return Err(file_fault(66, h));
     }
-    if has_no_text(tables, section_name_field(view, h)) {
+    if has_no_text::<BIG>(tables, section_name_field(view, h)) {
         return Err(file_fault(69, h));
     }
     Ok(())
 }
 
 /// Tests faults 64, 65, 66 and 69 of all sections.
-pub(crate) fn check_sections(view: View, tables: Tables) -> Result<(), Fault>
-    requires { AreTables (bytes_of view) tables }
-    ensures { Answers (flat_map (section_tests (bytes_of view.entry)) (section_starts (bytes_of view.entry))) (λ _. ⊤) result }
+pub(crate) fn check_sections<const BIG: bool>(view: View, tables: Tables) -> Result<(), Fault>
+    requires { AreTables BIG (bytes_of view) tables }
+    ensures { Answers (flat_map (section_tests BIG (bytes_of view.entry)) (section_starts BIG (bytes_of view.entry))) (λ _. ⊤) result }
 {
     for i in 0..tables.sections {
-        check_section(view, tables, tables.headers + SECTION_LEN * i)?;
+        check_section::<BIG>(view, tables, tables.headers + SECTION_LEN * i)?;
     }
     Ok(())
 }
 
 /// The section with a name, whose header is at a file offset.
-pub(crate) fn section_at<'a>(view: View<'a>, h: u64, name: &'a [u8]) -> FileSection<'a>
+pub(crate) fn section_at<'a, const BIG: bool>(
+    view: View<'a>,
+    h: u64,
+    name: &'a [u8],
+) -> FileSection<'a>
     requires inside { h + 40 ≤ size_of view }
-    requires none { first_standing (section_tests (bytes_of view) h) ≡ None }
-    requires name { name.now ≡ unwrap_or (section_name (bytes_of view) h) [] }
-    ensures { file_section_view result ≡ section_in (bytes_of view.entry) h }
+    requires none { first_standing (section_tests BIG (bytes_of view) h) ≡ None }
+    requires name { name.now ≡ unwrap_or (section_name BIG (bytes_of view) h) [] }
+    ensures { file_section_view result ≡ section_in BIG (bytes_of view.entry) h }
 {
     let (pointer, size, flags) = (
         u32_in(view, h, 20),
@@ -164,23 +168,23 @@ fn read_section<'a, A: Allocator>(
 }
 
 /// A list of the sections, in table order, if none has one of faults 64, 65, 66 and 69.
-pub(crate) fn read_sections<'a, A: Allocator + Copy>(
+pub(crate) fn read_sections<'a, A: Allocator + Copy, const BIG: bool>(
     alloc: A,
     ends: &mut TextEnds<A>,
     view: View<'a>,
     tables: Tables,
 ) -> Result<Vec<ObjSection<'a, A>, A>, AllocError>
-    requires tables { AreTables (bytes_of view) tables }
-    requires none { first_standing (flat_map (section_tests (bytes_of view)) (section_starts (bytes_of view))) ≡ None }
+    requires tables { AreTables BIG (bytes_of view) tables }
+    requires none { first_standing (flat_map (section_tests BIG (bytes_of view)) (section_starts BIG (bytes_of view))) ≡ None }
     requires known { AreEndsOf (bytes_of view) ends.old }
-    ensures sections { IfOk result (λ sections. map section_view sections.items ≡ map (section_in (bytes_of view.entry)) (section_starts (bytes_of view.entry))) }
+    ensures sections { IfOk result (λ sections. map section_view sections.items ≡ map (section_in BIG (bytes_of view.entry)) (section_starts BIG (bytes_of view.entry))) }
     ensures known { AreEndsOf (bytes_of view.entry) ends.new }
 {
     let mut sections = Vec::with_capacity(alloc, tables.sections as usize)?;
     for i in 0..tables.sections {
         let h = tables.headers + SECTION_LEN * i;
-        let name = name_kept(ends, view, tables, section_name_field(view, h));
-        sections.push(read_section(alloc, section_at(view, h, name))?)?;
+        let name = name_kept::<A, BIG>(ends, view, tables, section_name_field(view, h));
+        sections.push(read_section(alloc, section_at::<BIG>(view, h, name))?)?;
     }
     Ok(sections)
 }

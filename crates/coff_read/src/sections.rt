@@ -5,6 +5,7 @@ ghost use Rattle.std.specs.List.{flat_map};
 ghost use Rattle.pe_view.specs.Faults.{first_standing};
 ghost use Rattle.pe_view.specs.TextEnds.{AreEndsOf};
 ghost use Rattle.pe_view.specs.View.{bytes_of};
+ghost use Rattle.coff_read.specs.Forms.{Plain};
 ghost use Rattle.coff_read.specs.ObjectFaults.{section_tests};
 ghost use Rattle.coff_read.specs.Reading.{section_starts};
 ghost use Rattle.coff_read.specs.TablesPlace.{AreTables};
@@ -24,7 +25,7 @@ pub struct EachSection<'a, A: Allocator> {
     pub(crate) tables: Tables,
     pub(crate) next: u64,
     pub(crate) ends: TextEnds<A>,
-    ghost stand: { AreTables (bytes_of view) tables },
+    ghost stand: { AreTables Plain (bytes_of view) tables },
     ghost within: { next ≤ tables.sections },
     ghost sound: { first_standing (flat_map (section_tests (bytes_of view)) (section_starts (bytes_of view))) ≡ None },
     ghost known: { AreEndsOf (bytes_of view) ends },
@@ -47,8 +48,8 @@ impl<'a, A: Allocator + Copy> Iterator for EachSection<'a, A> {
         }
         let h = self.tables.headers + SECTION_LEN * self.next;
         let field = section_name_field(self.view, h);
-        let name = name_kept(&mut self.ends, self.view, self.tables, field);
+        let name = name_kept::<A, false>(&mut self.ends, self.view, self.tables, field);
         self.next += 1;
-        Some(section_at(self.view, h, name))
+        Some(section_at::<false>(self.view, h, name))
     }
 }

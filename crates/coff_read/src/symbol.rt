@@ -7,16 +7,19 @@ ghost use Rattle.pe_view.specs.Faults.{Answers, first_standing};
 ghost use Rattle.pe_view.specs.TextEnds.{AreEndsOf};
 ghost use Rattle.pe_view.specs.View.{bytes_of, size_of};
 ghost use Rattle.coff_read.specs.Field.{field};
+ghost use Rattle.coff_read.specs.FormFaults as form_faults;
+ghost use Rattle.coff_read.specs.FormReading as form;
+ghost use Rattle.coff_read.specs.Forms.{Plain, symbol_len};
 ghost use Rattle.coff_read.specs.Names.{symbol_name};
-ghost use Rattle.coff_read.specs.ObjectFaults.{symbol_tests};
 ghost use Rattle.coff_read.specs.ObjectView.{symbol_view};
-ghost use Rattle.coff_read.specs.Reading.{section_of_number, symbol_at, record_start, aux_count, symbol_indexes};
+ghost use Rattle.coff_read.specs.Reading.{section_of_number, symbol_at, record_start, symbol_indexes};
 ghost use Rattle.coff_read.specs.TablesPlace.{AreTables};
 
 use crate::error::file_fault;
 use crate::fields::{u8_in, u16_in, u32_in};
 use crate::names::{has_no_text, name_kept, symbol_name_field};
 use crate::tables::{SYMBOL_LEN, Tables};
+use crate::widths::{aux_in, debug_number, number_in, symbol_len as record_len};
 use pe_view::{Fault, TextEnds, View};
 use std::alloc::{AllocError, Allocator};
 
@@ -78,37 +81,48 @@ pub fn section_of_number(number: u16) -> SymbolSection
     }
 }
 
+/// The file offset of a record of the symbol table.
+pub(crate) fn record_at<const BIG: bool>(view: View, tables: Tables, k: u64) -> u64
+    requires tables { AreTables BIG (bytes_of view) tables }
+    requires inside { k < tables.records }
+    ensures value { result ≡ tables.symbols + symbol_len BIG * k }
+    ensures start { result ≡ form.record_start BIG (bytes_of view.entry) k }
+    ensures within { result + symbol_len BIG ≤ size_of view.entry }
+{
+    tables.symbols + record_len::<BIG>() * k
+}
+
 /// The index of the record after the symbol of a record and its auxiliary records, or the first of faults 69 to 71.
-fn check_symbol(view: View, tables: Tables, k: u64) -> Result<u64, Fault>
-    requires tables { AreTables (bytes_of view) tables }
+fn check_symbol<const BIG: bool>(view: View, tables: Tables, k: u64) -> Result<u64, Fault>
+    requires tables { AreTables BIG (bytes_of view) tables }
     requires inside { k < tables.records }
     ensures within { IfOk result (λ next. next ≤ tables.records) }
-    ensures exact { Answers (symbol_tests (bytes_of view.entry) k) (λ next. next ≡ k + 1 + aux_count (bytes_of view.entry) k) result }
+    ensures exact { Answers (form_faults.symbol_tests BIG (bytes_of view.entry) k) (λ next. next ≡ k + 1 + form.aux_count BIG (bytes_of view.entry) k) result }
 {
-    let at = tables.symbols + SYMBOL_LEN * k;
-    if has_no_text(tables, symbol_name_field(view, at)) {
+    let at = record_at::<BIG>(view, tables, k);
+    if has_no_text::<BIG>(tables, symbol_name_field(view, at)) {
         return Err(file_fault(69, at));
     }
-    let next = k + 1 + u64::from(u8_in(view, at, 17));
+    let next = k + 1 + u64::from(aux_in::<BIG>(view, at));
     if next > tables.records {
         return Err(file_fault(70, at));
     }
-    let number = u16_in(view, at, 12);
-    if u64::from(number) > tables.sections && number < 0xfffe {
+    let number = number_in::<BIG>(view, at);
+    if u64::from(number) > tables.sections && number < debug_number::<BIG>() {
         return Err(file_fault(71, at));
     }
     Ok(next)
 }
 
 /// The number of symbols, or the first of faults 69 to 71. Each comes after the auxiliary records of the one before.
-pub(crate) fn check_symbols(view: View, tables: Tables) -> Result<u64, Fault>
-    requires { AreTables (bytes_of view) tables }
-    ensures { Answers (flat_map (symbol_tests (bytes_of view.entry)) (symbol_indexes (bytes_of view.entry))) (λ count. count ≡ length (symbol_indexes (bytes_of view.entry))) result }
+pub(crate) fn check_symbols<const BIG: bool>(view: View, tables: Tables) -> Result<u64, Fault>
+    requires { AreTables BIG (bytes_of view) tables }
+    ensures { Answers (flat_map (form_faults.symbol_tests BIG (bytes_of view.entry)) (form.symbol_indexes BIG (bytes_of view.entry))) (λ count. count ≡ length (form.symbol_indexes BIG (bytes_of view.entry))) result }
 {
     let mut count = 0;
     let mut k = 0;
     while k < tables.records {
-        k = check_symbol(view, tables, k)?;
+        k = check_symbol::<BIG>(view, tables, k)?;
         count += 1;
     }
     Ok(count)
@@ -141,8 +155,8 @@ pub(crate) fn read_symbols<'a, A: Allocator + Copy>(
     tables: Tables,
     count: usize,
 ) -> Result<Vec<Symbol<'a>, A>, AllocError>
-    requires tables { AreTables (bytes_of view) tables }
-    requires none { first_standing (flat_map (symbol_tests (bytes_of view)) (symbol_indexes (bytes_of view))) ≡ None }
+    requires tables { AreTables Plain (bytes_of view) tables }
+    requires none { first_standing (flat_map (form_faults.symbol_tests Plain (bytes_of view)) (form.symbol_indexes Plain (bytes_of view))) ≡ None }
     requires known { AreEndsOf (bytes_of view) ends.old }
     ensures { IfOk result (λ symbols. map symbol_view symbols.items ≡ map (λ k. symbol_at (bytes_of view.entry) (record_start (bytes_of view.entry) k)) (symbol_indexes (bytes_of view.entry))) }
 {
@@ -150,7 +164,7 @@ pub(crate) fn read_symbols<'a, A: Allocator + Copy>(
     let mut k = 0;
     while k < tables.records {
         let at = tables.symbols + SYMBOL_LEN * k;
-        let name = name_kept(ends, view, tables, symbol_name_field(view, at));
+        let name = name_kept::<A, false>(ends, view, tables, symbol_name_field(view, at));
         let symbol = symbol_at(view, at, name);
         k += 1 + symbol.aux.len() as u64 / SYMBOL_LEN;
         symbols.push(symbol)?;

@@ -5,8 +5,9 @@ ghost use Rattle.std.specs.List.{flat_map};
 ghost use Rattle.pe_view.specs.Faults.{first_standing};
 ghost use Rattle.pe_view.specs.TextEnds.{AreEndsOf};
 ghost use Rattle.pe_view.specs.View.{bytes_of};
-ghost use Rattle.coff_read.specs.ObjectFaults.{symbol_tests};
-ghost use Rattle.coff_read.specs.Reading.{symbols_from};
+ghost use Rattle.coff_read.specs.FormFaults.{symbol_tests};
+ghost use Rattle.coff_read.specs.FormReading.{symbols_from};
+ghost use Rattle.coff_read.specs.Forms.{Plain};
 ghost use Rattle.coff_read.specs.TablesPlace.{AreTables};
 
 use crate::names::{name_kept, name_of, symbol_name_field};
@@ -22,9 +23,9 @@ pub struct Symbols<'a> {
     pub(crate) view: View<'a>,
     pub(crate) tables: Tables,
     pub(crate) next: u64,
-    ghost stand: { AreTables (bytes_of view) tables },
+    ghost stand: { AreTables Plain (bytes_of view) tables },
     ghost within: { next ≤ tables.records },
-    ghost sound: { first_standing (flat_map (symbol_tests (bytes_of view)) (symbols_from (bytes_of view) next (tables.records - next) 0)) ≡ None },
+    ghost sound: { first_standing (flat_map (symbol_tests Plain (bytes_of view)) (symbols_from Plain (bytes_of view) next (tables.records - next) 0)) ≡ None },
 }
 
 impl<'a> Iterator for Symbols<'a> {
@@ -43,7 +44,7 @@ impl<'a> Iterator for Symbols<'a> {
             return None;
         }
         let at = self.tables.symbols + SYMBOL_LEN * k;
-        let name = name_of(self.view, self.tables, symbol_name_field(self.view, at));
+        let name = name_of::<false>(self.view, self.tables, symbol_name_field(self.view, at));
         let symbol = symbol_at(self.view, at, name);
         self.next = k + 1 + symbol.aux.len() as u64 / SYMBOL_LEN;
         Some((k as u32, symbol))
@@ -59,9 +60,9 @@ pub struct EachSymbol<'a, A: Allocator> {
     pub(crate) tables: Tables,
     pub(crate) next: u64,
     pub(crate) ends: TextEnds<A>,
-    ghost stand: { AreTables (bytes_of view) tables },
+    ghost stand: { AreTables Plain (bytes_of view) tables },
     ghost within: { next ≤ tables.records },
-    ghost sound: { first_standing (flat_map (symbol_tests (bytes_of view)) (symbols_from (bytes_of view) next (tables.records - next) 0)) ≡ None },
+    ghost sound: { first_standing (flat_map (symbol_tests Plain (bytes_of view)) (symbols_from Plain (bytes_of view) next (tables.records - next) 0)) ≡ None },
     ghost known: { AreEndsOf (bytes_of view) ends },
 }
 
@@ -82,7 +83,7 @@ impl<'a, A: Allocator + Copy> Iterator for EachSymbol<'a, A> {
         }
         let at = self.tables.symbols + SYMBOL_LEN * k;
         let field = symbol_name_field(self.view, at);
-        let name = name_kept(&mut self.ends, self.view, self.tables, field);
+        let name = name_kept::<A, false>(&mut self.ends, self.view, self.tables, field);
         let symbol = symbol_at(self.view, at, name);
         self.next += 1 + symbol.aux.len() as u64 / SYMBOL_LEN;
         Some((k as u32, symbol))

@@ -1,31 +1,40 @@
 //! Where the symbol table and the string table of an object file are; and faults 61 to 63, 67 and 68.
 
-ghost use Rattle.std.specs.Prelude.{◌≡◌, ◌+◌, ◌*◌, ◌≤◌, ◌<◌, ◌^◌, ℕ, is_none, nat_le, OnOk, ⊤};
+ghost use Rattle.std.specs.Prelude.{true, false, ◌≡◌, ◌+◌, ◌*◌, ◌≤◌, ◌<◌, ◌^◌, ℕ, is_none, nat_le, OnOk, ⊤};
 ghost use Rattle.pe_view.specs.View.{bytes_of, size_of};
 ghost use Rattle.pe_view.specs.Faults.{Answers};
 ghost use Rattle.pe_view.specs.Text.{text_between};
-ghost use Rattle.coff_read.specs.Field.{field};
-ghost use Rattle.coff_read.specs.ObjectFaults.{is_other_header, header_tests, string_table_tests, symbol_table_tests};
-ghost use Rattle.coff_read.specs.Reading.{section_start};
+ghost use Rattle.coff_read.specs.FormFaults.{header_tests, kind_tests, symbol_table_tests};
+ghost use Rattle.coff_read.specs.FormReading.{section_start};
+ghost use Rattle.coff_read.specs.Forms.{header_len, section_count};
+ghost use Rattle.coff_read.specs.ObjectFaults.{is_other_header, string_table_tests};
 ghost use Rattle.coff_read.specs.Strings.{size_field};
 ghost use Rattle.coff_read.specs.TablesPlace.{AreTables};
 
 use crate::error::file_fault;
 use crate::fields::{u16_in, u32_in};
+use crate::widths::{
+    header_len, optional_size, section_count, sections_at, symbol_len, symbols_at,
+};
 use bstr::ByteSlice;
 use pe_view::{Fault, View};
 
 /// The most bytes of a file: 2^32.
 const FILE_LIMIT: u64 = 0x1_0000_0000;
 
-/// The size of the COFF header in bytes.
+/// The size of a plain object's header in bytes.
 pub(crate) const HEADER_LEN: u64 = 20;
 
 /// The size of a section header in bytes.
 pub(crate) const SECTION_LEN: u64 = 40;
 
-/// The size of a symbol table record in bytes.
+/// The size in bytes of a symbol table record of a plain object and of an image.
 pub(crate) const SYMBOL_LEN: u64 = 18;
+
+/// The class of big objects, {D1BAA1C7-BAEE-4BA9-AF20-FAF66AA4DCB8}, as a file has it.
+const BIG_CLASS: [u8; 16] = [
+    0xc7, 0xa1, 0xba, 0xd1, 0xee, 0xba, 0xa9, 0x4b, 0xaf, 0x20, 0xfa, 0xf6, 0x6a, 0xa4, 0xdc, 0xb8,
+];
 
 /// Where the tables of an object file are, and how long they are.
 #[derive(Clone, Copy)]
@@ -55,23 +64,61 @@ pub fn is_other_header(machine: u16, sections: u16, time_stamp: u32) -> bool
         || (machine == 0 && sections == 0xffff)
 }
 
+/// Tests fault 62 of a plain object.
+fn check_plain(view: View) -> Result<(), Fault>
+    requires { 20 ≤ size_of view }
+    ensures { Answers (kind_tests false (bytes_of view.entry)) (λ _. ⊤) result }
+{
+    if is_other_header(u16_in(view, 0, 0), u16_in(view, 0, 2), u32_in(view, 0, 4)) {
+        return Err(file_fault(62, 0));
+    }
+    Ok(())
+}
+
+/// Tests fault 62 of a big object: that it begins as one, its version, and its class.
+fn check_big(view: View) -> Result<(), Fault>
+    requires { 56 ≤ size_of view }
+    ensures { Answers (kind_tests true (bytes_of view.entry)) (λ _. ⊤) result }
+{
+    if u16_in(view, 0, 0) != 0 || u16_in(view, 0, 2) != 0xffff {
+        return Err(file_fault(62, 0));
+    }
+    if u16_in(view, 0, 4) < 2 {
+        return Err(file_fault(62, 4));
+    }
+    if view.slice(12, 16).unwrap() != BIG_CLASS.as_slice() {
+        return Err(file_fault(62, 12));
+    }
+    Ok(())
+}
+
+/// Tests fault 62: that the file is of this form.
+fn check_kind<const BIG: bool>(view: View) -> Result<(), Fault>
+    requires { header_len BIG ≤ size_of view }
+    ensures { Answers (kind_tests BIG (bytes_of view.entry)) (λ _. ⊤) result }
+{
+    if BIG {
+        check_big(view)
+    } else {
+        check_plain(view)
+    }
+}
+
 /// Tests faults 61 to 63.
-pub(crate) fn check_header(view: View) -> Result<(), Fault>
-    ensures exact { Answers (header_tests (bytes_of view.entry)) (λ _. ⊤) result }
-    ensures fits { OnOk result (section_start (bytes_of view.entry) (field (bytes_of view.entry) 0 2 2) ≤ size_of view.entry) }
+pub(crate) fn check_header<const BIG: bool>(view: View) -> Result<(), Fault>
+    ensures exact { Answers (header_tests BIG (bytes_of view.entry)) (λ _. ⊤) result }
+    ensures header { OnOk result (header_len BIG ≤ size_of view.entry) }
+    ensures fits { OnOk result (section_start BIG (bytes_of view.entry) (section_count BIG (bytes_of view.entry)) ≤ size_of view.entry) }
     ensures small { OnOk result (size_of view.entry ≤ 2 ^ 32) }
 {
     let len = view.len();
-    if len < HEADER_LEN || len > FILE_LIMIT {
+    if len < header_len::<BIG>() || len > FILE_LIMIT {
         return Err(file_fault(61, len));
     }
-    let sections = u16_in(view, 0, 2);
-    if is_other_header(u16_in(view, 0, 0), sections, u32_in(view, 0, 4)) {
-        return Err(file_fault(62, 0));
-    }
-    let optional = u64::from(u16_in(view, 0, 16));
-    if HEADER_LEN + optional + SECTION_LEN * u64::from(sections) > len {
-        return Err(file_fault(63, 2));
+    check_kind::<BIG>(view)?;
+    let sections = section_count::<BIG>(view);
+    if header_len::<BIG>() + optional_size::<BIG>(view) + SECTION_LEN * sections > len {
+        return Err(file_fault(63, sections_at::<BIG>()));
     }
     Ok(())
 }
@@ -109,14 +156,16 @@ pub(crate) fn texts_len(view: View, start: u64, size: u64) -> u64
 }
 
 /// Where the tables are, or fault 67 or 68.
-pub(crate) fn read_tables(view: View) -> Result<Tables, Fault>
-    requires fits { section_start (bytes_of view) (field (bytes_of view) 0 2 2) ≤ size_of view }
+pub(crate) fn read_tables<const BIG: bool>(view: View) -> Result<Tables, Fault>
+    requires header { header_len BIG ≤ size_of view }
+    requires fits { section_start BIG (bytes_of view) (section_count BIG (bytes_of view)) ≤ size_of view }
     requires small { size_of view ≤ 2 ^ 32 }
-    ensures { Answers (symbol_table_tests (bytes_of view.entry)) (AreTables (bytes_of view.entry)) result }
+    ensures { Answers (symbol_table_tests BIG (bytes_of view.entry)) (AreTables BIG (bytes_of view.entry)) result }
 {
-    let headers = HEADER_LEN + u64::from(u16_in(view, 0, 16));
-    let sections = u64::from(u16_in(view, 0, 2));
-    let symbols = u64::from(u32_in(view, 0, 8));
+    let headers = header_len::<BIG>() + optional_size::<BIG>(view);
+    let sections = section_count::<BIG>(view);
+    let at = symbols_at::<BIG>();
+    let symbols = u64::from(u32_in(view, 0, at));
     if symbols == 0 {
         return Ok(Tables {
             headers,
@@ -128,10 +177,10 @@ pub(crate) fn read_tables(view: View) -> Result<Tables, Fault>
             texts: 0,
         });
     }
-    let records = u64::from(u32_in(view, 0, 12));
-    let strings = symbols + SYMBOL_LEN * records;
+    let records = u64::from(u32_in(view, 0, at + 4));
+    let strings = symbols + symbol_len::<BIG>() * records;
     if strings > view.len() {
-        return Err(file_fault(67, 8));
+        return Err(file_fault(67, at));
     }
     let strings_size = strings_size(view, strings)?;
     Ok(Tables {

@@ -1,7 +1,8 @@
 //! What stands at a place of an object.
 
 ghost use Rattle.std.specs.Prelude.{◌≡◌, ◌<◌, length, IfOk, OnErr};
-ghost use Rattle.coff_read.specs.ObjectFaults.{object_tests};
+ghost use Rattle.coff_read.specs.EitherObject.{form_in};
+ghost use Rattle.coff_read.specs.FormFaults.{object_tests};
 ghost use Rattle.pe_text.specs.Outcome.{IsOutcomeOf};
 ghost use Rattle.pe_text.specs.TextWriter.{IsReady};
 ghost use Rattle.pe_page.specs.Page.{AddsSome};
@@ -12,7 +13,7 @@ use crate::relocation_width::relocation_width;
 use crate::row_name::row_cells;
 use crate::spot::{OUTSIDE_SECTION, SectionSearch, Spot};
 use coff_read::{
-    FileSection, ObjectFile, RawData, Relocation, Symbol, SymbolSection, relocation_type_name,
+    BigSection, BigSymbol, EitherObject, FileSection, RawData, Relocation, relocation_type_name,
 };
 use pe_page::Cell::{self, Plain};
 use pe_page::{NOTHING, SymbolNames, permissions, read_sections, sizes_of, write_cells};
@@ -35,7 +36,7 @@ const NO_RVA: &[u8] =
 #[derive(Drop)]
 struct ReadObject<'o, 'a, A: Allocator> {
     file: &'a [u8],
-    object: &'o ObjectFile<'a>,
+    object: &'o EitherObject<'a>,
     sections: &'o [FileSection<'a>],
     names: &'o SymbolNames<'a, A>,
 }
@@ -122,7 +123,7 @@ impl<'o, 'a, A: Allocator + Copy> ReadObject<'o, 'a, A> {
 }
 
 /// Whether a symbol stands for a whole section.
-fn is_of_section(symbol: &Symbol, section: &FileSection) -> bool {
+fn is_of_section(symbol: &BigSymbol, section: &FileSection) -> bool {
     symbol.class == STATIC && symbol.value == 0 && symbol.name == section.name
 }
 
@@ -130,7 +131,7 @@ fn is_of_section(symbol: &Symbol, section: &FileSection) -> bool {
 /// does not stand for the whole section, if there is one.
 fn nearest_symbol<'a, A: Allocator + Copy>(
     alloc: A,
-    object: &ObjectFile<'a>,
+    object: &EitherObject<'a>,
     index: usize,
     section: &FileSection,
     offset: u64,
@@ -139,10 +140,10 @@ fn nearest_symbol<'a, A: Allocator + Copy>(
     let mut nearest = None;
     let mut has_special = false;
     for (_, symbol) in object.each_symbol(alloc) {
-        let SymbolSection::Section(its_number) = symbol.section else {
+        let BigSection::Section(its_number) = symbol.section else {
             continue;
         };
-        if usize::from(its_number) != number || u64::from(symbol.value) > offset {
+        if its_number as usize != number || u64::from(symbol.value) > offset {
             continue;
         }
         let is_special = !is_of_section(&symbol, section);
@@ -370,13 +371,13 @@ pub(crate) fn write_object_spots<A: Allocator + Copy, W: Sink>(
     spots: &[Spot],
 ) -> Result<Outcome, AllocError>
     requires { IsReady W.failures text.old }
-    ensures judged { IfOk result (IsOutcomeOf (object_tests file.now)) }
+    ensures judged { IfOk result (IsOutcomeOf (object_tests (form_in file.now) file.now)) }
     ensures adds { IfOk result (λ _. AddsSome W.taken W.failures text.old text.new) }
     ensures same { text.new.writer.ghost_name ≡ text.old.writer.ghost_name }
     ensures adds_none { OnErr result (text.new ≡ text.old) }
     ensures reads { OnErr result (0 < length file.now) }
 {
-    match ObjectFile::new(file) {
+    match EitherObject::new(file) {
         Ok(object) => {
             let sections = read_sections(alloc, &object)?;
             let names = SymbolNames::new(alloc, &object, true)?;

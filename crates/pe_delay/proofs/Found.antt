@@ -8,6 +8,7 @@ use Rattle.pe_tables.specs.Imports.{Import}
 use Rattle.pe_delay.specs.Entries.{entry_count}
 use Rattle.pe_delay.specs.Findings.{descriptor_tests, descriptors_tests}
 use Rattle.pe_delay.specs.Imports.{imports_in, imports_after}
+use Rattle.pe_delay.specs.Names.{names_after, names_in}
 use Rattle.pe_delay.specs.Tables.{tables_of}
 use Rattle.pe_delay.specs.Walk.{AddsImports}
 use Rattle.pe_delay.specs.declared.descriptor.DelayDescriptor.{DelayDescriptor}
@@ -51,6 +52,14 @@ module _ (i : LaidOut) (read : ℕ) (d : DelayDescriptor) (left more : List Dela
       ap (λ (xs : List Import). xs ++ imports_after i next more) after
       ∙ append_assoc old (imports_in i read d) (imports_after i next more)
       ∙ ap (λ (ds : List DelayDescriptor). old ++ imports_after i read ds) (sym is)
+      ∙ inv
+
+  -- and the RVAs of its names
+  pub names_more : (old new whole : List ℕ) → new ≡ old ++ names_in i read d → old ++ names_after i read left ≡ whole → new ++ names_after i next more ≡ whole
+  names_more old new whole after inv =
+      ap (λ (xs : List ℕ). xs ++ names_after i next more) after
+      ∙ append_assoc old (names_in i read d) (names_after i next more)
+      ∙ ap (λ (ds : List DelayDescriptor). old ++ names_after i read ds) (sym is)
       ∙ inv
 
   pub import_here : imports_in i read d ≢ [] → imports_after i read left ≢ []

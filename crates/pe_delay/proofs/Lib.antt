@@ -1,7 +1,8 @@
 pub mod AsImports
 pub mod Choices
 pub mod Found
-pub mod Rows
+pub mod Naming
+mod Rows
 pub mod Steps
 pub mod Walks
 pub mod Whole

@@ -7,5 +7,6 @@ pub mod Entries
 pub mod Findings
 pub mod Imports
 pub mod Left
+pub mod Names
 pub mod Tables
 pub mod Walk

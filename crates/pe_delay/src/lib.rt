@@ -43,4 +43,4 @@ pub use descriptor::DelayDescriptor;
 pub use descriptors::DelayDescriptors;
 pub use findings::delay_findings;
 pub use imports::DelayImports;
-pub use reading::read_delay_imports;
+pub use reading::{NamedImports, read_delay_imports, read_named_delay_imports};

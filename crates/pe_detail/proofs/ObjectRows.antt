@@ -105,12 +105,15 @@ symbol_index_of_none = refl
 
 -- these compare no numbers, and a file without a header has none
 number_62 : detail_of claims 62 0 ≡ None
+unfolding field
 number_62 = refl
 
 number_65 : detail_of claims 65 20 ≡ None
+unfolding field
 number_65 = refl
 
 number_73 : detail_of claims 73 20 ≡ None
+unfolding field
 number_73 = refl
 
 no_header : detail_of (take 19 claims) 68 0 ≡ None

@@ -2,17 +2,22 @@
 
 ghost use Rattle.std.specs.Prelude.{◌≡◌, ◌≤◌, ◌<◌, ◌^◌, IfSome};
 ghost use Rattle.pe_view.specs.View.{bytes_of, size_of};
+ghost use Rattle.coff_read.specs.EitherObject.{form_in};
 ghost use Rattle.coff_read.specs.Field.{field};
-ghost use Rattle.coff_read.specs.Reading.{section_start};
-ghost use Rattle.coff_read.specs.Strings.{symbol_pointer, record_count, strings_size};
-ghost use Rattle.pe_detail.specs.ObjectDetail.{field_in, past_file, section_table_detail, raw_detail, relocations_detail, symbols_detail, strings_detail, name_detail, auxiliary_detail, section_number_detail, symbol_index_detail, record_detail, object_detail};
+ghost use Rattle.coff_read.specs.FormReading.{section_start, symbol_pointer, record_count, strings_size};
+ghost use Rattle.coff_read.specs.Forms.{header_len, sections_at, symbols_at, records_at, number_width, symbol_len, aux_at, section_count};
+ghost use Rattle.pe_detail.specs.ObjectDetail.{field_in, past_file, section_table, section_table_detail, raw_detail, relocations_detail, symbols_detail, strings_detail, name_detail, auxiliary_detail, section_number_detail, symbol_index_detail, record_detail, detail_in_form, object_detail};
 
 use crate::detail::Detail;
+use coff_read::is_read_as_big;
 use pe_head::FaultDetail;
 use pe_view::View;
 
 /// The size of the COFF file header in bytes.
 const HEADER_LEN: u64 = 20;
+
+/// The size of the header of a big object in bytes.
+const BIG_HEADER_LEN: u64 = 56;
 
 /// The size of a section header in bytes.
 const SECTION_LEN: u64 = 40;
@@ -20,8 +25,33 @@ const SECTION_LEN: u64 = 40;
 /// The size of a relocation in bytes.
 const RELOCATION_LEN: u64 = 10;
 
+/// The size of the header of an object in bytes.
+fn header_len<const BIG: bool>() -> u64
+    ensures { result ≡ header_len BIG }
+{
+    if BIG { BIG_HEADER_LEN } else { HEADER_LEN }
+}
+
 /// The size of a symbol table record in bytes.
-const SYMBOL_LEN: u64 = 18;
+fn symbol_len<const BIG: bool>() -> u64
+    ensures { result ≡ symbol_len BIG }
+{
+    if BIG { 20 } else { 18 }
+}
+
+/// The offset of PointerToSymbolTable.
+fn symbols_at<const BIG: bool>() -> u64
+    ensures { result ≡ symbols_at BIG }
+{
+    if BIG { 48 } else { 8 }
+}
+
+/// The offset of NumberOfSymbols.
+fn records_at<const BIG: bool>() -> u64
+    ensures { result ≡ records_at BIG }
+{
+    if BIG { 52 } else { 12 }
+}
 
 /// The number in a field of 1 byte, if it is in the file.
 #[tactic(auto, unfolding(coff_read::specs::Field::field))]
@@ -68,16 +98,39 @@ fn past_file(size: u64, width: u64, count: Option<u64>, offset: Option<u64>) -> 
     }))
 }
 
-/// The numbers of fault 63.
-fn section_table_detail(view: View, size: u64) -> Option<Detail>
-    ensures { result ≡ section_table_detail (bytes_of view.entry) size }
+/// The number of sections or a section number: a field of 2 bytes, and of 4 bytes of a big object, if it is in the file.
+fn number_in<const BIG: bool>(view: View, at: u64, offset: u64) -> Option<u64>
+    ensures value { result ≡ field_in (bytes_of view.entry) at offset (number_width BIG) }
+    ensures small { IfSome result (λ number. number < 2 ^ 32) }
 {
-    let count = u16_in(view, 0, 2);
-    let begin = match u16_in(view, 0, 16) {
+    if BIG {
+        u32_in(view, at, offset)
+    } else {
+        u16_in(view, at, offset)
+    }
+}
+
+/// Where the section table begins, if its header says so.
+fn section_table<const BIG: bool>(view: View) -> Option<u64>
+    ensures value { result ≡ section_table BIG (bytes_of view.entry) }
+    ensures small { IfSome result (λ at. at < 2 ^ 32) }
+{
+    if BIG {
+        return Some(BIG_HEADER_LEN);
+    }
+    match u16_in(view, 0, 16) {
         Some(optional) => Some(HEADER_LEN + optional),
         None => None,
-    };
-    past_file(size, SECTION_LEN, count, begin)
+    }
+}
+
+/// The numbers of fault 63.
+fn section_table_detail<const BIG: bool>(view: View, size: u64) -> Option<Detail>
+    ensures { result ≡ section_table_detail BIG (bytes_of view.entry) size }
+{
+    let at = if BIG { 44 } else { 2 };
+    let count = number_in::<BIG>(view, 0, at);
+    past_file(size, SECTION_LEN, count, section_table::<BIG>(view))
 }
 
 /// The numbers of fault 64.
@@ -96,10 +149,12 @@ fn relocations_detail(view: View, size: u64, header: u64) -> Option<Detail>
 }
 
 /// The numbers of fault 67.
-fn symbols_detail(view: View, size: u64) -> Option<Detail>
-    ensures { result ≡ symbols_detail (bytes_of view.entry) size }
+fn symbols_detail<const BIG: bool>(view: View, size: u64) -> Option<Detail>
+    ensures { result ≡ symbols_detail BIG (bytes_of view.entry) size }
 {
-    past_file(size, SYMBOL_LEN, u32_in(view, 0, 12), u32_in(view, 0, 8))
+    let count = u32_in(view, 0, records_at::<BIG>());
+    let begin = u32_in(view, 0, symbols_at::<BIG>());
+    past_file(size, symbol_len::<BIG>(), count, begin)
 }
 
 /// The numbers of fault 68.
@@ -118,121 +173,142 @@ fn strings_detail(view: View, size: u64, at: u64) -> Detail
     })
 }
 
-/// A field of 2 bytes of the COFF file header.
-fn header_u16(view: View, offset: u64) -> u64
-    requires header { 20 ≤ size_of view }
-    requires inside { offset ≤ 18 }
-    ensures value { result ≡ field (bytes_of view.entry) 0 offset 2 }
-    ensures small { result < 2 ^ 16 }
-{
-    u16_in(view, 0, offset).unwrap()
-}
-
-/// A field of 4 bytes of the COFF file header.
-fn header_u32(view: View, offset: u64) -> u64
-    requires header { 20 ≤ size_of view }
-    requires inside { offset ≤ 16 }
-    ensures value { result ≡ field (bytes_of view.entry) 0 offset 4 }
+/// The number of sections.
+fn section_count<const BIG: bool>(view: View) -> u64
+    requires { header_len BIG ≤ size_of view }
+    ensures value { result ≡ section_count BIG (bytes_of view.entry) }
     ensures small { result < 2 ^ 32 }
 {
-    u32_in(view, 0, offset).unwrap()
+    let at = if BIG { 44 } else { 2 };
+    number_in::<BIG>(view, 0, at).unwrap()
+}
+
+/// The file offset of the symbol table, or 0.
+fn symbol_pointer<const BIG: bool>(view: View) -> u64
+    requires { header_len BIG ≤ size_of view }
+    ensures value { result ≡ symbol_pointer BIG (bytes_of view.entry) }
+    ensures small { result < 2 ^ 32 }
+{
+    u32_in(view, 0, symbols_at::<BIG>()).unwrap()
 }
 
 /// The number of records of the symbol table: none if PointerToSymbolTable is 0.
-fn record_count(view: View) -> u64
-    requires { 20 ≤ size_of view }
-    ensures value { result ≡ record_count (bytes_of view.entry) }
+fn record_count<const BIG: bool>(view: View) -> u64
+    requires { header_len BIG ≤ size_of view }
+    ensures value { result ≡ record_count BIG (bytes_of view.entry) }
     ensures small { result < 2 ^ 32 }
 {
-    if header_u32(view, 8) == 0 {
+    if symbol_pointer::<BIG>(view) == 0 {
         0
     } else {
-        header_u32(view, 12)
+        u32_in(view, 0, records_at::<BIG>()).unwrap()
     }
 }
 
 /// The size that the string table states: 0 if there is none.
-fn strings_size(view: View) -> u64
-    requires { 20 ≤ size_of view }
-    ensures { result ≡ strings_size (bytes_of view.entry) }
+fn strings_size<const BIG: bool>(view: View) -> u64
+    requires { header_len BIG ≤ size_of view }
+    ensures { result ≡ strings_size BIG (bytes_of view.entry) }
 {
-    let pointer = header_u32(view, 8);
+    let pointer = symbol_pointer::<BIG>(view);
     if pointer == 0 {
         return 0;
     }
-    u32_in(view, pointer + SYMBOL_LEN * record_count(view), 0).unwrap_or(0)
+    let start = pointer + symbol_len::<BIG>() * record_count::<BIG>(view);
+    u32_in(view, start, 0).unwrap_or(0)
+}
+
+/// Where the section headers of an object end.
+fn section_table_end<const BIG: bool>(view: View) -> u64
+    requires { header_len BIG ≤ size_of view }
+    ensures { result ≡ section_start BIG (bytes_of view.entry) (section_count BIG (bytes_of view.entry)) }
+{
+    let table = section_table::<BIG>(view).unwrap();
+    table + SECTION_LEN * section_count::<BIG>(view)
 }
 
 /// The numbers of fault 69 of a symbol.
-fn name_detail(view: View, at: u64) -> Option<Detail>
-    requires { 20 ≤ size_of view }
-    ensures { result ≡ name_detail (bytes_of view.entry) at }
+fn name_detail<const BIG: bool>(view: View, at: u64) -> Option<Detail>
+    requires { header_len BIG ≤ size_of view }
+    ensures { result ≡ name_detail BIG (bytes_of view.entry) at }
 {
-    let table = HEADER_LEN + header_u16(view, 16);
-    if at < table + SECTION_LEN * header_u16(view, 2) {
+    if at < section_table_end::<BIG>(view) {
         return None;
     }
     let offset = u32_in(view, at, 4)?;
     Some(Detail::NameOffset {
         offset,
-        size: strings_size(view),
+        size: strings_size::<BIG>(view),
     })
 }
 
 /// The numbers of fault 70.
-fn auxiliary_detail(view: View, at: u64) -> Option<Detail>
-    requires { 20 ≤ size_of view }
-    ensures { result ≡ auxiliary_detail (bytes_of view.entry) at }
+fn auxiliary_detail<const BIG: bool>(view: View, at: u64) -> Option<Detail>
+    requires { header_len BIG ≤ size_of view }
+    ensures { result ≡ auxiliary_detail BIG (bytes_of view.entry) at }
 {
-    let count = u8_in(view, at, 17)?;
-    let record = at.saturating_sub(header_u32(view, 8)) / SYMBOL_LEN;
+    let offset = if BIG { 19 } else { 17 };
+    let count = u8_in(view, at, offset)?;
+    let record = at.saturating_sub(symbol_pointer::<BIG>(view)) / symbol_len::<BIG>();
     Some(Detail::Auxiliary {
         count,
-        left: record_count(view).saturating_sub(record + 1),
+        left: record_count::<BIG>(view).saturating_sub(record + 1),
     })
 }
 
 /// The numbers of fault 71.
-fn section_number_detail(view: View, at: u64) -> Option<Detail>
-    requires { 20 ≤ size_of view }
-    ensures { result ≡ section_number_detail (bytes_of view.entry) at }
+fn section_number_detail<const BIG: bool>(view: View, at: u64) -> Option<Detail>
+    requires { header_len BIG ≤ size_of view }
+    ensures { result ≡ section_number_detail BIG (bytes_of view.entry) at }
 {
-    let index = u16_in(view, at, 12)?;
+    let index = number_in::<BIG>(view, at, 12)?;
     Some(Detail::Index {
         index,
-        count: header_u16(view, 2),
+        count: section_count::<BIG>(view),
     })
 }
 
 /// The numbers of fault 72.
-fn symbol_index_detail(view: View, at: u64) -> Option<Detail>
-    requires { 20 ≤ size_of view }
-    ensures { result ≡ symbol_index_detail (bytes_of view.entry) at }
+fn symbol_index_detail<const BIG: bool>(view: View, at: u64) -> Option<Detail>
+    requires { header_len BIG ≤ size_of view }
+    ensures { result ≡ symbol_index_detail BIG (bytes_of view.entry) at }
 {
     let index = u32_in(view, at, 4)?;
     Some(Detail::Index {
         index,
-        count: record_count(view),
+        count: record_count::<BIG>(view),
     })
 }
 
-/// The numbers of a fault at an offset of an object's file, which has `size` bytes. Of other files than objects there are none.
-pub(crate) fn object_detail(view: View, size: u64, number: u16, at: u64) -> Option<Detail>
-    ensures { result ≡ object_detail (bytes_of view.entry) size number at }
+/// The numbers of a fault at an offset of an object's file in a form, which has `size` bytes.
+fn detail_in_form<const BIG: bool>(view: View, size: u64, number: u16, at: u64) -> Option<Detail>
+    ensures { result ≡ detail_in_form BIG (bytes_of view.entry) size number at }
 {
-    if view.len() < HEADER_LEN {
+    if view.len() < header_len::<BIG>() {
         return None;
     }
     match number {
-        63 => section_table_detail(view, size),
+        63 => section_table_detail::<BIG>(view, size),
         64 => raw_detail(view, size, at),
         66 => relocations_detail(view, size, at),
-        67 => symbols_detail(view, size),
+        67 => symbols_detail::<BIG>(view, size),
         68 => Some(strings_detail(view, size, at)),
-        69 => name_detail(view, at),
-        70 => auxiliary_detail(view, at),
-        71 => section_number_detail(view, at),
-        72 => symbol_index_detail(view, at),
+        69 => name_detail::<BIG>(view, at),
+        70 => auxiliary_detail::<BIG>(view, at),
+        71 => section_number_detail::<BIG>(view, at),
+        72 => symbol_index_detail::<BIG>(view, at),
         _ => None,
+    }
+}
+
+/// The numbers of a fault at an offset of an object's file, which has `size` bytes, in the form that it is read in. Of other files than
+/// objects there are none.
+pub(crate) fn object_detail(view: View, size: u64, number: u16, at: u64) -> Option<Detail>
+    ensures { result ≡ object_detail (bytes_of view.entry) size number at }
+{
+    if is_read_as_big(view) {
+        detail_in_form::<true>(view, size, number, at)
+    } else {
+        detail_in_form::<false>(view, size, number, at)
     }
 }

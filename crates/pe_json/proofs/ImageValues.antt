@@ -44,7 +44,7 @@ named (row ∷ rows) value h = by (row.0 == value) (named rows value (and_parts 
     by true others = ascii row.1 (and_parts _ _ h).0
     by false others = others
 
-machines_ascii : are_ascii_names machine_names ≡ true
+pub machines_ascii : are_ascii_names machine_names ≡ true
 unfolding machine_names
 machines_ascii = refl
 

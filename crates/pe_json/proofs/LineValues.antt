@@ -27,6 +27,7 @@ use Rattle.pe_json.specs.Value.{IsTextOf}
 use Rattle.pe_json.specs.JsonText as text
 use Rattle.pe_json.specs.Line.{first_members, line}
 use Rattle.pe_json.specs.ImageLine.{head_members, exports_members, imports_members, fixups_members}
+use Rattle.coff_read.specs.EitherObject.{form_in}
 use Rattle.pe_json.specs.ObjectLine.{object_members}
 use Rattle.pe_json.specs.Refused.{fault_members, exports_if, imports_if, fixups_if, kind_of_refused, refused_line}
 use Rattle.pe_json.specs.ImageRecords.{members_beyond, own_members}
@@ -114,7 +115,7 @@ refused_is_line name seen size fault members h =
     h)
 
 object_line_is : (name file : List ℕ) (outcome : Outcome) → IsLine (object_file_line name file outcome)
-object_line_is name file Done = is_line name true (object_members file) (are_object_members _ file)
+object_line_is name file Done = is_line name true (object_members (form_in file) file) (are_object_members (form_in file) _ file)
 object_line_is name file (Refused fault) = refused_is_line name file (length file) fault [] tt
 
 image_line_is : (beyond : Option Beyond) (name : List ℕ) (size : ℕ) (file : List ℕ) (outcome : Outcome) → IsLine (image_file_line beyond name size file outcome)

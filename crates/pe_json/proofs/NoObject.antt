@@ -1,8 +1,8 @@
 -- A file without a fault in its headers is tested as an image.
-use Rattle.std.proofs.Common.{◌≡◌, ℕ, Bool, true, false, List, ◌∷◌, ◌++◌, [], length, Option, None, Some, refl, sym, ◌∙◌, ap, ap₂}
+use Rattle.std.proofs.Common.{◌≡◌, ℕ, Bool, true, false, List, ◌∷◌, ◌++◌, [], length, Option, None, Some, refl, sym, ◌+◌, ◌*◌, ◌∙◌, ap, ap₂, arith}
 use Rattle.std.specs.Prelude.{◌&&◌, ◌==◌, not, codes, nat_le, if◌then◌else◌}
 use Rattle.std.specs.Option.{option_or}
-use Rattle.std.proofs.lemmas.Bool.{true≢false, eqb-true}
+use Rattle.std.proofs.lemmas.Bool.{true≢false, eqb-true, ne_eqb}
 use Rattle.pe_view.specs.Faults.{first_standing}
 use Rattle.pe_view.specs.FirstStanding.{first-append, none_stands}
 use Rattle.pe_view.specs.Number.{num, byte_of}
@@ -11,7 +11,8 @@ use Rattle.pe_head.specs.HeaderFaults.{head_tests}
 use Rattle.pe_layout.specs.Image.{image_of_file}
 use Rattle.pe_layout.specs.SectionFaults.{layout_tests, placing_tests}
 use Rattle.pe_image.specs.ImageTests.{table_tests, image_tests}
-use Rattle.coff_read.specs.ObjectFaults.{object_tests}
+use Rattle.coff_read.specs.EitherObject.{form_in}
+use Rattle.coff_read.specs.FormFaults.{object_tests}
 use Rattle.pe_text.specs.declared.file_beginning.FileKind.{FileKind}
 use Rattle.pe_text.specs.declared.file_beginning.FileKind.TheVariants.{Image, Elf, Archive, ThinArchive, Text, Object, ImportObject, BigObject}
 use Rattle.pe_text.specs.FileKind.{begins_with, is_text, is_machine, begins_object, begins_import, begins_big_object, object_kind, kind_of, is_object}
@@ -26,21 +27,28 @@ chosen false false false true e kind other = refl
 chosen false false false false true kind other = refl
 chosen false false false false false kind other = other
 
-last : (a b c : Bool) → a ≡ false → is_object (if a then Some Object else (if b then Some ImportObject else (if c then Some BigObject else None))) ≡ false
-last true b c e = absurd (true≢false e)
-last false true c e = refl
-last false false true e = refl
-last false false false e = refl
+last : (a b c : Bool) → a ≡ false → c ≡ false → is_object (if a then Some Object else (if b then Some ImportObject else (if c then Some BigObject else None))) ≡ false
+last true b c e f = absurd (true≢false e)
+last false true c e f = refl
+last false false true e f = absurd (true≢false f)
+last false false false e f = refl
 
 and_false : (a b : Bool) → b ≡ false → (a && b) ≡ false
 and_false true b e = e
 and_false false b e = refl
 
+-- a file that begins with the number of `MZ` does not begin as a big object does
+no_big : (file : List ℕ) → num (byte_of file) 0 2 ≡ 0x5a4d → begins_big_object file ≡ false
+no_big file mark =
+    let more = num (byte_of file) 2 2 in
+    let whole : num (byte_of file) 0 4 ≡ num (byte_of file) 0 2 + 65536 * more = omega arith in
+    and_false (nat_le 16 (length file)) _ (rw (ne_eqb (num (byte_of file) 0 4) 0xffff0000 (λ is. absurd (omega (arith, is, whole, mark)))) refl)
+
 -- a file that begins with the number of `MZ` is no object
 not_object : (file : List ℕ) → num (byte_of file) 0 2 ≡ 0x5a4d → is_object (kind_of file) ≡ false
 not_object file mark =
     chosen (begins_with file (codes "MZ")) (begins_with file (127 ∷ codes "ELF")) (begins_with file (codes "!<arch>" ++ 10 ∷ [])) (begins_with file (codes "!<thin>" ++ 10 ∷ [])) (is_text file) (object_kind file)
-    (last (begins_object file) (begins_import file) (begins_big_object file) (and_false (nat_le 2 (length file)) (is_machine (num (byte_of file) 0 2)) (ap is_machine mark)))
+    (last (begins_object file) (begins_import file) (begins_big_object file) (and_false (nat_le 2 (length file)) (is_machine (num (byte_of file) 0 2)) (ap is_machine mark)) (no_big file mark))
 
 not_false : (b : Bool) → not b ≡ false → b ≡ true
 not_false true e = refl
@@ -68,5 +76,5 @@ no_object file sound = not_object file (mark_of file (head_none file sound))
 pub no_fault : (file : List ℕ) → first_standing (layout_tests 0 file) ≡ None → first_standing (table_tests (image_of_file 0 file)) ≡ None → first_standing (file_tests file) ≡ None
 unfolding image_tests
 no_fault file sound tables =
-    ap (λ (b : Bool). first_standing (if b then object_tests file else image_tests 0 file)) (no_object file sound)
+    ap (λ (b : Bool). first_standing (if b then object_tests (form_in file) file else image_tests 0 file)) (no_object file sound)
     ∙ first-append (layout_tests 0 file) (table_tests (image_of_file 0 file)) ∙ ap₂ option_or sound tables

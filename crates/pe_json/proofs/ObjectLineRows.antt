@@ -9,6 +9,7 @@ use Rattle.pe_head.specs.Names.{machine_names, characteristic_names, section_fla
 use Rattle.pe_head.specs.declared.section.SectionHeader.{SectionHeader}
 use Rattle.coff_read.specs.Auxiliary as auxiliary
 use Rattle.coff_read.specs.Field.{field}
+use Rattle.coff_read.specs.Forms.{Plain}
 use Rattle.coff_read.specs.Records.{Symbol}
 use Rattle.coff_read.specs.TypeNames.{storage_class_names, amd64_type_names, i386_type_names}
 use Rattle.coff_read.specs.declared.symbol.SymbolSection.TheVariants as belongs
@@ -70,13 +71,13 @@ file_symbol = record {
   aux = codes "fdiml.c" ++ (0 ∷ 0 ∷ 0 ∷ 0 ∷ 0 ∷ 0 ∷ 0 ∷ 0 ∷ 0 ∷ 0 ∷ 0 ∷ []);
 }
 
-symbol : symbol_row 0 file_symbol
+symbol : symbol_row Plain 0 file_symbol
     ≡ codes "{\"index\":0,\"name\":\".file\",\"value\":0,\"section\":\"DEBUG\",\"type\":0,\"storage_class\":103,\"storage_class_name\":\"FILE\",\"auxiliary_records\":[{\"index\":1,\"kind\":\"file\",\"file_name\":\"fdiml.c\"}]}"
 unfolding file_symbol symbol_name section_of_symbol symbol_fields aux_members member object list with_commas text_if is_utf8 chars encode escape_byte digits storage_class_names
 symbol = refl
 
 -- a symbol without auxiliary records, whose class has no name
-plain_symbol : symbol_row 7 (record file_symbol { name = []; value = 3; section = belongs.Section 2; kind = 32; class = 200; aux = [] })
+plain_symbol : symbol_row Plain 7 (record file_symbol { name = []; value = 3; section = belongs.Section 2; kind = 32; class = 200; aux = [] })
     ≡ codes "{\"index\":7,\"name\":\"\",\"value\":3,\"section_number\":2,\"type\":32,\"storage_class\":200}"
 unfolding file_symbol symbol_name section_of_symbol symbol_fields member object with_commas text_if is_utf8 chars encode escape_byte digits storage_class_names
 plain_symbol = refl

@@ -3,24 +3,32 @@ use Rattle.std.proofs.Common.{◌≡◌, ◌+◌, ℕ, zero, suc, Bool, true, fa
 use Rattle.std.specs.Prelude.{◌==◌, ◌*◌, if◌then◌else◌}
 use Rattle.std.specs.List.{range_with_len}
 use Rattle.pe_view.specs.Number.{part}
-use Rattle.pe_head.specs.Names.{Names, name_in}
+use Rattle.pe_head.specs.Names.{Names, name_in, machine_names}
 use Rattle.pe_head.specs.declared.section.SectionHeader.{SectionHeader}
 use Rattle.coff_read.specs.Auxiliary as auxiliary
-use Rattle.coff_read.specs.Auxiliary.{AuxRecord, aux_of}
+use Rattle.coff_read.specs.Auxiliary.{AuxRecord}
+use Rattle.coff_read.specs.BigLeft.{indexed}
+use Rattle.coff_read.specs.BigObjectFile.{big_file_header}
+use Rattle.coff_read.specs.FormAuxiliary.{aux_of}
+use Rattle.coff_read.specs.FormReading.{object_of, symbol_indexes}
+use Rattle.coff_read.specs.FormRecords.{aux_records}
+use Rattle.coff_read.specs.Forms.{Form, symbol_len}
 use Rattle.coff_read.specs.Headers.{file_header}
-use Rattle.coff_read.specs.Reading.{object_of, symbol_indexes}
-use Rattle.coff_read.specs.Records.{Section, Symbol, aux_records}
-use Rattle.coff_read.specs.SymbolsLeft.{indexed}
+use Rattle.coff_read.specs.Records.{Section, Symbol}
 use Rattle.coff_read.specs.TypeNames.{storage_class_names, amd64_type_names, i386_type_names, arm64_type_names, arm_type_names, relocation_type_names}
 use Rattle.coff_read.specs.declared.relocation.Relocation.{Relocation}
 use Rattle.coff_read.specs.declared.symbol.SymbolSection.{SymbolSection}
 use Rattle.coff_read.specs.declared.symbol.SymbolSection.TheVariants as belongs
+use Rattle.coff_read.specs.declared.big_header.BigFileHeader.{BigFileHeader}
+use Rattle.pe_json.specs.BigHeader.{big_numbers, big_members}
 use Rattle.pe_json.specs.Headers.{coff_members}
+use Rattle.pe_json.specs.JsonText.{member}
 use Rattle.pe_json.specs.Sections.{section_members}
-use Rattle.pe_json.specs.ObjectLine.{relocation_numbers, relocation_row, relocations_members, object_section_row, sections_of, aux_members, aux_row, aux_row_at, aux_list, aux_list_members, symbol_name, section_of_symbol, symbol_fields, symbol_row, object_members}
+use Rattle.json.specs.Print.{quoted}
+use Rattle.pe_json.specs.ObjectLine.{relocation_numbers, relocation_row, relocations_members, object_section_row, sections_of, aux_members, aux_row, aux_row_at, aux_list, aux_list_members, symbol_name, section_of_symbol, symbol_fields, symbol_row, format_name, header_members, object_members}
 use Rattle.pe_json.proofs.Printed.{IsValue, IsMember, AreMembers, items_value, members_value}
 use Rattle.pe_json.proofs.JsonMembers.{is_member, number_member, word_member, name_member, hex_value, members_then, text_members, row_values, numbered_values}
-use Rattle.pe_json.proofs.ImageValues.{are_ascii_names, named, are_coff_members, are_section_members}
+use Rattle.pe_json.proofs.ImageValues.{are_ascii_names, named, machines_ascii, are_coff_members, are_section_members}
 
 -- ---- sections
 either : (b : Bool) (names others : Names) → are_ascii_names names ≡ true → are_ascii_names others ≡ true → are_ascii_names (if b then names else others) ≡ true
@@ -68,13 +76,14 @@ are_aux_members limit (auxiliary.Raw bytes) = (word_member _ _ (codes "raw") ref
 aux_value : (limit index : ℕ) (aux : AuxRecord) → IsValue (suc limit) (aux_row index aux)
 aux_value limit index aux = members_value limit _ (number_member _ _ _ refl, are_aux_members limit aux)
 
-aux_list_value : (limit index : ℕ) (s : Symbol) → IsValue (suc (suc limit)) (aux_list index s)
-aux_list_value limit index s =
-    items_value (suc limit) _ (row_values (suc limit) (aux_row_at index s) (range_with_len 0 (aux_records s)) (λ k. aux_value limit (index + k) (aux_of s (part s.aux (18 * k) 18))))
+aux_list_value : (big : Form) (limit index : ℕ) (s : Symbol) → IsValue (suc (suc limit)) (aux_list big index s)
+aux_list_value big limit index s =
+    items_value (suc limit) _
+    (row_values (suc limit) (aux_row_at big index s) (range_with_len 0 (aux_records big s)) (λ k. aux_value limit (index + k) (aux_of big s (part s.aux (symbol_len big * k) (symbol_len big)))))
 
-are_aux_lists : (limit count index : ℕ) (s : Symbol) → AreMembers (suc (suc limit)) (aux_list_members count index s)
-are_aux_lists limit zero index s = tt
-are_aux_lists limit (suc n) index s = (is_member _ _ _ refl (aux_list_value limit index s), tt)
+are_aux_lists : (big : Form) (limit count index : ℕ) (s : Symbol) → AreMembers (suc (suc limit)) (aux_list_members big count index s)
+are_aux_lists big limit zero index s = tt
+are_aux_lists big limit (suc n) index s = (is_member _ _ _ refl (aux_list_value big limit index s), tt)
 
 -- ---- symbols
 are_symbol_name : (limit : ℕ) (s : Symbol) → AreMembers limit (symbol_name s)
@@ -96,31 +105,48 @@ classes_ascii : are_ascii_names storage_class_names ≡ true
 unfolding storage_class_names
 classes_ascii = refl
 
-pub symbol_value : (limit index : ℕ) (s : Symbol) → IsValue (suc (suc (suc limit))) (symbol_row index s)
-symbol_value limit index s =
+pub symbol_value : (big : Form) (limit index : ℕ) (s : Symbol) → IsValue (suc (suc (suc limit))) (symbol_row big index s)
+symbol_value big limit index s =
     members_value (suc (suc limit)) _ (
       number_member _ _ _ refl,
       members_then _ (symbol_name s) _ (are_symbol_name _ s)
           (members_then _ (symbol_fields s) _ (are_symbol_fields _ s)
-          (members_then _ _ (aux_list_members (aux_records s) (index + 1) s)
+          (members_then _ _ (aux_list_members big (aux_records big s) (index + 1) s)
           (text_members (suc (suc limit)) _ (name_in storage_class_names s.class) refl (named storage_class_names s.class classes_ascii))
-          (are_aux_lists limit (aux_records s) (index + 1) s))),
+          (are_aux_lists big limit (aux_records big s) (index + 1) s))),
     )
 
+-- ---- the header
+are_big_numbers : (limit : ℕ) (h : BigFileHeader) → AreMembers limit (big_numbers h)
+unfolding big_numbers
+are_big_numbers limit h = search number_member
+
+are_header_members : (big : Form) (limit : ℕ) (file : List ℕ) → AreMembers (suc (suc (suc limit))) (header_members big file)
+are_header_members false limit file = are_coff_members (suc (suc limit)) (file_header file)
+are_header_members true limit file =
+    let h = big_file_header file in (
+      number_member _ _ _ refl,
+      members_then _ _ (big_numbers h) (text_members _ _ (name_in machine_names h.machine) refl (named machine_names h.machine machines_ascii)) (are_big_numbers _ h),
+    )
+
+is_format : (big : Form) (limit : ℕ) → IsMember limit (member (codes "format") (quoted (format_name big)))
+is_format false limit = word_member _ _ (codes "COFF") refl refl
+is_format true limit = word_member _ _ (codes "BIGOBJ") refl refl
+
 -- ---- all of it
-pub are_object_members : (limit : ℕ) (file : List ℕ) → AreMembers (suc (suc (suc (suc limit)))) (object_members file)
+pub are_object_members : (big : Form) (limit : ℕ) (file : List ℕ) → AreMembers (suc (suc (suc (suc limit)))) (object_members big file)
 unfolding object_members
-are_object_members limit file = (
-  word_member _ _ (codes "COFF") refl refl,
+are_object_members big limit file = (
+  is_format big _,
   (
-    is_member _ _ _ refl (members_value (suc (suc (suc limit))) (coff_members (file_header file)) (are_coff_members (suc (suc limit)) (file_header file))),
+    is_member _ _ _ refl (members_value (suc (suc (suc limit))) (header_members big file) (are_header_members big limit file)),
     (
       is_member _ _ _ refl
-          (items_value (suc (suc (suc limit))) _ (numbered_values (suc (suc (suc limit))) (object_section_row (object_of file).machine) 1 (sections_of file) (section_value limit (object_of file).machine))),
+          (items_value (suc (suc (suc limit))) _ (numbered_values (suc (suc (suc limit))) (object_section_row (object_of big file).machine) 1 (sections_of big file) (section_value limit (object_of big file).machine))),
       (
         is_member _ _ _ refl
             (items_value (suc (suc (suc limit))) _
-            (row_values (suc (suc (suc limit))) (λ (item : ℕ × Symbol). symbol_row item.0 item.1) (indexed file (symbol_indexes file)) (λ item. symbol_value limit item.0 item.1))),
+            (row_values (suc (suc (suc limit))) (λ (item : ℕ × Symbol). symbol_row big item.0 item.1) (indexed big file (symbol_indexes big file)) (λ item. symbol_value big limit item.0 item.1))),
         tt,
       ),
     ),

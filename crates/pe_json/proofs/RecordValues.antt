@@ -48,6 +48,7 @@ use Rattle.pe_json.specs.declared.structure.StructureKind.{StructureKind}
 use Rattle.pe_json.specs.declared.structure.StructureKind.TheVariants.{LoadConfiguration, ClrHeader}
 use Rattle.pe_json.proofs.Printed.{IsValue, AreValues, AreMembers, is_number, items_value, members_value}
 use Rattle.pe_json.proofs.JsonMembers.{IsAsciiText, is_member, number_member, name_member, wide_member, wide_value, hex_value, members_then, flat_members, text_members, row_values}
+use Rattle.coff_read.specs.Forms.{Plain}
 use Rattle.coff_read.specs.ImageSymbols.{image_symbols}
 use Rattle.coff_read.specs.Records.{Symbol}
 use Rattle.pe_json.proofs.FaultValues.{fault_value}
@@ -260,7 +261,7 @@ are_symbols : (limit : ℕ) (left_out : Bool) (symbols : List (ℕ × Symbol)) �
 unfolding symbols_unless
 are_symbols limit true symbols = tt
 are_symbols limit false symbols =
-    (is_member _ _ _ refl (items_value (suc (suc (suc limit))) _ (row_values (suc (suc (suc limit))) indexed_row symbols (λ item. symbol_value limit item.0 item.1))), tt)
+    (is_member _ _ _ refl (items_value (suc (suc (suc limit))) _ (row_values (suc (suc (suc limit))) indexed_row symbols (λ item. symbol_value Plain limit item.0 item.1))), tt)
 
 -- ---- findings
 are_findings_in : (limit : ℕ) (fs : List Fault) → AreMembers (suc (suc (suc limit))) (findings_in fs)

@@ -2,10 +2,13 @@
 use Rattle.std.proofs.Common.{◌≡◌, ◌∙◌, ◌==◌, ℕ, zero, suc, ◌+◌, ◌*◌, ◌<◌, ◌≤◌, Bool, true, false, List, [], ◌∷◌, ◌++◌, length, take, drop, map, get_or, add-one, Some, codes, refl, sym, ap, arith, take-append-drop, append_assoc}
 use Rattle.std.specs.Prelude.{slice_get}
 use Rattle.std.proofs.lemmas.Bool.{ne_eqb, lt-ltb}
-use Rattle.coff_read.specs.Auxiliary.{AuxRecord, aux_of, aux_record}
+use Rattle.coff_read.specs.Auxiliary.{AuxRecord}
+use Rattle.coff_read.specs.FormAuxiliary.{aux_of, aux_record}
+use Rattle.coff_read.specs.FormReading.{section_in}
+use Rattle.coff_read.specs.FormRecords.{aux_records}
+use Rattle.coff_read.specs.Forms.{Form, symbol_len}
 use Rattle.coff_read.specs.Headers.{section_header}
-use Rattle.coff_read.specs.Reading.{section_in}
-use Rattle.coff_read.specs.Records.{Section, Symbol, aux_records}
+use Rattle.coff_read.specs.Records.{Section, Symbol}
 use Rattle.pe_head.specs.declared.section.SectionHeader.{SectionHeader}
 use Rattle.pe_view.specs.Number.{part}
 use Rattle.pe_json.specs.JsonText.{member, numbered_rows}
@@ -67,17 +70,18 @@ not_first [] row = refl
 not_first (r ∷ written) row = refl
 
 -- the auxiliary record that was found
-pub record_told : (s : Symbol) (k : ℕ) (aux : AuxRecord) → k < aux_records s → Some aux ≡ aux_record s k → aux ≡ aux_of s (part s.aux (18 * k) 18)
-record_told s k aux below is =
-    let e : Some aux ≡ Some (aux_of s (part s.aux (18 * k) 18)) = rw (lt-ltb k (aux_records s) below) at is in
+pub record_told : (big : Form) (s : Symbol) (k : ℕ) (aux : AuxRecord) → k < aux_records big s → Some aux ≡ aux_record big s k
+    → aux ≡ aux_of big s (part s.aux (symbol_len big * k) (symbol_len big))
+record_told big s k aux below is =
+    let e : Some aux ≡ Some (aux_of big s (part s.aux (symbol_len big * k) (symbol_len big))) = rw (lt-ltb k (aux_records big s) below) at is in
     cc
 
 -- the section that was found, with its header
-pub section_at : (row : ℕ → SectionHeader × Section → List ℕ) (file : List ℕ) (starts : List ℕ) (n i : ℕ) (header : SectionHeader) (section : Section) (d : List ℕ)
-    → Some header ≡ slice_get (map (section_header file) starts) i → Some section ≡ slice_get (map (section_in file) starts) i
-    → get_or (numbered_rows row n (map (λ h. (section_header file h, section_in file h)) starts)) i d ≡ row (n + i) (header, section)
-section_at row file [] n i header section d has found = absurd cc
-section_at row file (h ∷ starts) n zero header section d has found = here (section_header file h) (section_in file h) header section has found
+pub section_at : (big : Form) (row : ℕ → SectionHeader × Section → List ℕ) (file : List ℕ) (starts : List ℕ) (n i : ℕ) (header : SectionHeader) (section : Section) (d : List ℕ)
+    → Some header ≡ slice_get (map (section_header file) starts) i → Some section ≡ slice_get (map (section_in big file) starts) i
+    → get_or (numbered_rows row n (map (λ h. (section_header file h, section_in big file h)) starts)) i d ≡ row (n + i) (header, section)
+section_at big row file [] n i header section d has found = absurd cc
+section_at big row file (h ∷ starts) n zero header section d has found = here (section_header file h) (section_in big file h) header section has found
   where
     here : (a : SectionHeader) (b : Section) (x : SectionHeader) (y : Section) → Some x ≡ Some a → Some y ≡ Some b → row n (a, b) ≡ row (n + 0) (x, y)
     here a b x y e f =
@@ -85,24 +89,24 @@ section_at row file (h ∷ starts) n zero header section d has found = here (sec
         let q : y ≡ b = cc in
         let none : n ≡ n + 0 = omega arith in
         λ i. row (none i) (sym p i, sym q i)
-section_at row file (h ∷ starts) n (suc i) header section d has found =
-    section_at row file starts (n + 1) i header section d has found
+section_at big row file (h ∷ starts) n (suc i) header section d has found =
+    section_at big row file starts (n + 1) i header section d has found
     ∙ ap (λ (k : ℕ). row k (header, section)) (omega arith)
 
-pub as_many : (row : ℕ → SectionHeader × Section → List ℕ) (file : List ℕ) (starts : List ℕ) (n : ℕ)
-    → length (numbered_rows row n (map (λ h. (section_header file h, section_in file h)) starts)) ≡ length (map (section_in file) starts)
-as_many row file [] n = refl
-as_many row file (h ∷ starts) n = ap suc (as_many row file starts (n + 1))
+pub as_many : (big : Form) (row : ℕ → SectionHeader × Section → List ℕ) (file : List ℕ) (starts : List ℕ) (n : ℕ)
+    → length (numbered_rows row n (map (λ h. (section_header file h, section_in big file h)) starts)) ≡ length (map (section_in big file) starts)
+as_many big row file [] n = refl
+as_many big row file (h ∷ starts) n = ap suc (as_many big row file starts (n + 1))
 
 -- a symbol with auxiliary records, and one without
-pub no_records : (n index : ℕ) (s : Symbol) → n ≡ 0 → more (aux_list_members n index s) ≡ []
+pub no_records : (big : Form) (n index : ℕ) (s : Symbol) → n ≡ 0 → more (aux_list_members big n index s) ≡ []
 unfolding more
-no_records zero index s none = refl
-no_records (suc n) index s none = absurd (omega (arith, none))
+no_records big zero index s none = refl
+no_records big (suc n) index s none = absurd (omega (arith, none))
 
-pub some_records : (n index : ℕ) (s : Symbol) → (n ≡ 0 → ⊥) → more (aux_list_members n index s) ≡ more (member (codes "auxiliary_records") (aux_list index s) ∷ [])
-some_records zero index s some = absurd (some refl)
-some_records (suc n) index s some = refl
+pub some_records : (big : Form) (n index : ℕ) (s : Symbol) → (n ≡ 0 → ⊥) → more (aux_list_members big n index s) ≡ more (member (codes "auxiliary_records") (aux_list big index s) ∷ [])
+some_records big zero index s some = absurd (some refl)
+some_records big (suc n) index s some = refl
 
 -- rows of items that are taken one by one
 pub mapped-next : {X : Type 0} (row : X → List ℕ) (item : X) (left more : List X) (written all : List (List ℕ)) → left ≡ item ∷ more → written ++ map row left ≡ all

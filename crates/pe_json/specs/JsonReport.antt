@@ -8,7 +8,8 @@ use Rattle.pe_text.specs.Engine.{OnJudged, Written}
 use Rattle.pe_view.specs.declared.fault.Fault.{Fault}
 use Rattle.pe_view.specs.Faults.{Test, first_standing}
 use Rattle.pe_image.specs.ImageTests.{image_tests}
-use Rattle.coff_read.specs.ObjectFaults.{object_tests}
+use Rattle.coff_read.specs.EitherObject.{form_in}
+use Rattle.coff_read.specs.FormFaults.{object_tests}
 use Rattle.pe_text.specs.FileKind.{tests_by_kind}
 use Rattle.pe_text.specs.Outcome.{IsOutcomeOf}
 use Rattle.pe_reach.specs.Sized.{IsKnown}
@@ -19,7 +20,7 @@ use Rattle.pe_json.specs.Refused.{refused_line}
 
 -- the tests of a file: those of an object if its first bytes are those of one, otherwise those of an image with the number 0
 abbrev pub file_tests : List ℕ → List Test
-file_tests file = tests_by_kind file (object_tests file) (image_tests 0 file)
+file_tests file = tests_by_kind file (object_tests (form_in file) file) (image_tests 0 file)
 
 -- the outcome and the line of a file of a size with this name, of which these bytes were read
 abbrev pub IsLine : Option Beyond → List ℕ → ℕ → List ℕ → Outcome → List ℕ → Type 0

@@ -6,6 +6,7 @@ pub use Rattle.pe_tables.specs.Exports
 pub use Rattle.pe_text.specs.Engine
 pub use Rattle.pe_text.specs.FileKind
 pub use Rattle.pe_text.specs.Outcome
+pub mod BigHeader
 pub mod BoundRows
 pub mod CertificateRows
 pub mod DebugRows

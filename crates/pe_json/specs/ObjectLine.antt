@@ -1,21 +1,27 @@
--- The line of an object without a fault.
-use Rattle.std.specs.Prelude.{ℕ, zero, suc, ◌+◌, ◌*◌, true, List, [], ◌∷◌, ◌++◌, codes, map}
+-- The line of an object of either form without a fault.
+use Rattle.std.specs.Prelude.{ℕ, zero, suc, ◌+◌, ◌*◌, false, true, List, [], ◌∷◌, ◌++◌, codes, map}
 use Rattle.std.specs.List.{range_with_len}
 use Rattle.json.specs.Print.{quoted}
 use Rattle.pe_view.specs.Number.{part}
 use Rattle.pe_head.specs.Names.{name_in}
 use Rattle.pe_head.specs.declared.section.SectionHeader.{SectionHeader}
 use Rattle.coff_read.specs.Auxiliary as auxiliary
-use Rattle.coff_read.specs.Auxiliary.{AuxRecord, aux_of}
+use Rattle.coff_read.specs.Auxiliary.{AuxRecord}
+use Rattle.coff_read.specs.BigLeft.{indexed}
+use Rattle.coff_read.specs.BigObjectFile.{big_file_header}
+use Rattle.coff_read.specs.EitherObject.{form_in}
+use Rattle.coff_read.specs.FormAuxiliary.{aux_of}
+use Rattle.coff_read.specs.FormReading.{object_of, section_in, section_starts, symbol_indexes}
+use Rattle.coff_read.specs.FormRecords.{aux_records}
+use Rattle.coff_read.specs.Forms.{Form, symbol_len}
 use Rattle.coff_read.specs.Headers.{file_header, section_header}
-use Rattle.coff_read.specs.Reading.{object_of, section_in, section_starts, symbol_indexes}
-use Rattle.coff_read.specs.Records.{Section, Symbol, aux_records}
-use Rattle.coff_read.specs.SymbolsLeft.{indexed}
+use Rattle.coff_read.specs.Records.{Section, Symbol}
 use Rattle.coff_read.specs.TypeNames.{storage_class_names, relocation_type_names}
 use Rattle.coff_read.specs.declared.relocation.Relocation.{Relocation}
 use Rattle.coff_read.specs.declared.symbol.SymbolSection.{SymbolSection}
 use Rattle.coff_read.specs.declared.symbol.SymbolSection.TheVariants as belongs
 use Rattle.pe_json.specs.JsonText.{member, object, list, number, name, text_if, hex_string, numbered_rows}
+use Rattle.pe_json.specs.BigHeader.{big_members}
 use Rattle.pe_json.specs.Headers.{coff_members}
 use Rattle.pe_json.specs.Line.{line}
 use Rattle.pe_json.specs.Sections.{section_members}
@@ -39,8 +45,8 @@ object_section_row machine index s = object
     (number (codes "number") index ∷ (section_members s.1.name s.0 ++ relocations_members machine s.1.relocations))
 
 -- the sections of an object, each with its header
-abbrev pub sections_of : List ℕ → List (SectionHeader × Section)
-sections_of file = map (λ h. (section_header file h, section_in file h)) (section_starts file)
+abbrev pub sections_of : Form → List ℕ → List (SectionHeader × Section)
+sections_of big file = map (λ h. (section_header file h, section_in big file h)) (section_starts big file)
 
 -- ---- auxiliary records
 -- what an auxiliary record is, and its fields
@@ -71,17 +77,17 @@ abbrev pub aux_row : ℕ → AuxRecord → List ℕ
 aux_row index aux = object (number (codes "index") index ∷ aux_members aux)
 
 -- auxiliary record k of a symbol, where its first has the index
-abbrev pub aux_row_at : ℕ → Symbol → ℕ → List ℕ
-aux_row_at index s k = aux_row (index + k) (aux_of s (part s.aux (18 * k) 18))
+abbrev pub aux_row_at : Form → ℕ → Symbol → ℕ → List ℕ
+aux_row_at big index s k = aux_row (index + k) (aux_of big s (part s.aux (symbol_len big * k) (symbol_len big)))
 
 -- the list of a symbol's auxiliary records, of which the first has the index
-abbrev pub aux_list : ℕ → Symbol → List ℕ
-aux_list index s = list (map (aux_row_at index s) (range_with_len 0 (aux_records s)))
+abbrev pub aux_list : Form → ℕ → Symbol → List ℕ
+aux_list big index s = list (map (aux_row_at big index s) (range_with_len 0 (aux_records big s)))
 
 -- the same as a member, if there are any
-abbrev pub aux_list_members : ℕ → ℕ → Symbol → List (List ℕ)
-aux_list_members zero index s = []
-aux_list_members (suc n) index s = member (codes "auxiliary_records") (aux_list index s) ∷ []
+abbrev pub aux_list_members : Form → ℕ → ℕ → Symbol → List (List ℕ)
+aux_list_members big zero index s = []
+aux_list_members big (suc n) index s = member (codes "auxiliary_records") (aux_list big index s) ∷ []
 
 -- ---- symbols
 unfoldable pub symbol_name : Symbol → List (List ℕ)
@@ -102,20 +108,34 @@ symbol_fields s =
     ∷ number (codes "storage_class") s.class ∷ []
 
 -- a symbol with the index of its record, and its auxiliary records, which come after that
-abbrev pub symbol_row : ℕ → Symbol → List ℕ
-symbol_row index s = object
+abbrev pub symbol_row : Form → ℕ → Symbol → List ℕ
+symbol_row big index s = object
     (number (codes "index") index
     ∷ (symbol_name s ++ (symbol_fields s
-    ++ (text_if (codes "storage_class_name") (name_in storage_class_names s.class) ++ aux_list_members (aux_records s) (index + 1) s))))
+    ++ (text_if (codes "storage_class_name") (name_in storage_class_names s.class) ++ aux_list_members big (aux_records big s) (index + 1) s))))
 
 -- ---- the line
-unfoldable pub object_members : List ℕ → List (List ℕ)
-object_members file =
-    member (codes "format") (quoted (codes "COFF"))
-    ∷ member (codes "headers") (object (coff_members (file_header file)))
-    ∷ member (codes "sections") (list (numbered_rows (object_section_row (object_of file).machine) 1 (sections_of file)))
-    ∷ member (codes "symbols") (list (map (λ item. symbol_row item.0 item.1) (indexed file (symbol_indexes file)))) ∷ []
+-- the form of an object
+abbrev pub format_name : Form → List ℕ
+format_name false = codes "COFF"
+format_name true = codes "BIGOBJ"
 
--- the line of an object without a fault, from its file
+-- the fields of its header
+abbrev pub header_members : Form → List ℕ → List (List ℕ)
+header_members false file = coff_members (file_header file)
+header_members true file = big_members (big_file_header file)
+
+unfoldable pub object_members : Form → List ℕ → List (List ℕ)
+object_members big file =
+    member (codes "format") (quoted (format_name big))
+    ∷ member (codes "headers") (object (header_members big file))
+    ∷ member (codes "sections") (list (numbered_rows (object_section_row (object_of big file).machine) 1 (sections_of big file)))
+    ∷ member (codes "symbols") (list (map (λ item. symbol_row big item.0 item.1) (indexed big file (symbol_indexes big file)))) ∷ []
+
+-- the line of an object of a form without a fault, from its file
+abbrev pub line_of_form : Form → List ℕ → List ℕ → List ℕ
+line_of_form big text file = line text true (object_members big file)
+
+-- the same, of the form that its file is read in
 abbrev pub object_line : List ℕ → List ℕ → List ℕ
-object_line text file = line text true (object_members file)
+object_line text file = line_of_form (form_in file) text file

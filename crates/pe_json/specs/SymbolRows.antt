@@ -2,12 +2,13 @@
 use Rattle.std.specs.Prelude.{ℕ, Bool, true, false, not, ◌||◌, List, [], ◌∷◌, ◌==◌, codes, map}
 use Rattle.pe_head.specs.declared.headers.Headers.{Headers}
 use Rattle.coff_read.specs.ImageSymbols.{image_symbols}
+use Rattle.coff_read.specs.Forms.{Plain}
 use Rattle.coff_read.specs.Records.{Symbol}
 use Rattle.pe_json.specs.JsonText.{member, list}
 use Rattle.pe_json.specs.ObjectLine.{symbol_row}
 
 abbrev pub indexed_row : ℕ × Symbol → List ℕ
-indexed_row item = symbol_row item.0 item.1
+indexed_row item = symbol_row Plain item.0 item.1
 
 -- the member that lists symbols, unless it is left out
 unfoldable pub symbols_unless : Bool → List (ℕ × Symbol) → List (List ℕ)

@@ -4,15 +4,16 @@ ghost use Rattle.std.specs.Prelude.{◌+◌, ◌*◌, ◌^◌, ◌≤◌, ◌==�
 ghost use Rattle.std.specs.List.{range_with_len};
 ghost use Rattle.coff_read.specs.Auxiliary.{Function, Section as SectionRecord};
 ghost use Rattle.coff_read.specs.AuxiliaryView.{aux_view};
-ghost use Rattle.coff_read.specs.ObjectView.{symbol_view};
-ghost use Rattle.coff_read.specs.Records.{aux_records};
+ghost use Rattle.coff_read.specs.BigAuxiliary.{big_aux_view};
+ghost use Rattle.coff_read.specs.BigView.{big_symbol_view};
+ghost use Rattle.coff_read.specs.FormRecords.{aux_records};
 ghost use Rattle.pe_text.specs.Text.{hex};
 ghost use Rattle.pe_text.specs.TextWriter.{IsReady, Adds};
 ghost use Rattle.pe_json.specs.Listed.{items_text, more};
 ghost use Rattle.pe_json.specs.ObjectLine.{aux_members, aux_row, aux_row_at, aux_list_members};
 
 use crate::string::{write_digits, write_name, write_number};
-use coff_read::{Aux, Symbol};
+use coff_read::{Aux, BigAux, BigSymbol, aux_count, aux_record};
 use pe_text::{Sink, TextWriter};
 
 /// Adds the members of the record of a function's definition.
@@ -52,7 +53,7 @@ fn write_definition<W: Sink>(
     relocations: u16,
     line_numbers: u16,
     check_sum: u32,
-    number: u16,
+    number: u32,
     selection: u8,
 )
     requires { IsReady W.failures text.old }
@@ -114,7 +115,7 @@ fn write_fields<W: Sink>(text: &mut TextWriter<W>, aux: &Aux)
             *relocations,
             *line_numbers,
             *checksum,
-            *number,
+            *number as u32,
             *selection,
         ),
         Aux::Raw { bytes } => {
@@ -125,20 +126,46 @@ fn write_fields<W: Sink>(text: &mut TextWriter<W>, aux: &Aux)
     }
 }
 
-/// Adds an auxiliary record with its index.
-fn write_aux<W: Sink>(text: &mut TextWriter<W>, index: u64, aux: &Aux)
+/// Adds the kind and the fields of an auxiliary record of an object of either form.
+fn write_either_fields<W: Sink>(text: &mut TextWriter<W>, aux: &BigAux)
     requires { IsReady W.failures text.old }
-    ensures { Adds W.taken W.failures text.old text.new (aux_row index (aux_view aux.now)) }
+    ensures { Adds W.taken W.failures text.old text.new (more (aux_members (big_aux_view aux.now))) }
+{
+    match aux {
+        BigAux::Section {
+            length,
+            relocations,
+            line_numbers,
+            checksum,
+            number,
+            selection,
+        } => write_definition(
+            text,
+            *length,
+            *relocations,
+            *line_numbers,
+            *checksum,
+            *number,
+            *selection,
+        ),
+        BigAux::Other(aux) => write_fields(text, aux),
+    }
+}
+
+/// Adds an auxiliary record with its index.
+fn write_aux<W: Sink>(text: &mut TextWriter<W>, index: u64, aux: &BigAux)
+    requires { IsReady W.failures text.old }
+    ensures { Adds W.taken W.failures text.old text.new (aux_row index (big_aux_view aux.now)) }
 {
     write_number(text, b"{\"index\":", index);
-    write_fields(text, aux);
+    write_either_fields(text, aux);
     text.text(b"}");
 }
 
 /// Adds an auxiliary record, after a comma unless it is the first of the list.
-fn write_next<W: Sink>(text: &mut TextWriter<W>, first: bool, index: u64, aux: &Aux)
+fn write_next<W: Sink>(text: &mut TextWriter<W>, first: bool, index: u64, aux: &BigAux)
     requires { IsReady W.failures text.old }
-    ensures { Adds W.taken W.failures text.old text.new (items_text first (aux_row index (aux_view aux.now) ∷ [])) }
+    ensures { Adds W.taken W.failures text.old text.new (items_text first (aux_row index (big_aux_view aux.now) ∷ [])) }
 {
     if first {
         write_aux(text, index, aux);
@@ -149,32 +176,37 @@ fn write_next<W: Sink>(text: &mut TextWriter<W>, first: bool, index: u64, aux: &
 }
 
 /// Adds the auxiliary records of a symbol, of which the first has the index.
-fn write_rows<W: Sink>(text: &mut TextWriter<W>, index: u64, symbol: &Symbol)
+fn write_rows<W: Sink>(text: &mut TextWriter<W>, is_big: bool, index: u64, symbol: &BigSymbol)
     requires ready { IsReady W.failures text.old }
     requires small { index ≤ 2 ^ 32 }
     ensures { Adds W.taken W.failures text.old text.new
-        (items_text true (map (aux_row_at index (symbol_view symbol.now)) (range_with_len 0 (aux_records (symbol_view symbol.now))))) }
+        (items_text true (map (aux_row_at is_big index (big_symbol_view symbol.now)) (range_with_len 0 (aux_records is_big (big_symbol_view symbol.now))))) }
 {
-    for k in 0..symbol.aux_count() {
+    for k in 0..aux_count(is_big, symbol) {
         if text.has_failed() {
             return;
         }
-        let aux = symbol.aux_record(k).unwrap();
+        let aux = aux_record(is_big, symbol, k).unwrap();
         write_next(text, k == 0, index + k as u64, &aux);
     }
 }
 
 /// Adds the member that lists the auxiliary records of a symbol, if it has any. The first of them has the index.
-pub(crate) fn write_aux_list<W: Sink>(text: &mut TextWriter<W>, index: u64, symbol: &Symbol)
+pub(crate) fn write_aux_list<W: Sink>(
+    text: &mut TextWriter<W>,
+    is_big: bool,
+    index: u64,
+    symbol: &BigSymbol,
+)
     requires ready { IsReady W.failures text.old }
     requires small { index ≤ 2 ^ 32 }
     ensures { Adds W.taken W.failures text.old text.new
-        (more (aux_list_members (aux_records (symbol_view symbol.now)) index (symbol_view symbol.now))) }
+        (more (aux_list_members is_big (aux_records is_big (big_symbol_view symbol.now)) index (big_symbol_view symbol.now))) }
 {
-    if symbol.aux_count() == 0 {
+    if aux_count(is_big, symbol) == 0 {
         return;
     }
     text.text(b",\"auxiliary_records\":[");
-    write_rows(text, index, symbol);
+    write_rows(text, is_big, index, symbol);
     text.text(b"]");
 }

@@ -1,7 +1,8 @@
 //! `json`: the engine of `petool json`, which checks a file as an image or an object and writes its line.
 
 ghost use Rattle.std.specs.Prelude.{◌≡◌, ◌++◌, ◌-◌, ◌^◌, ◌<◌, ◌≤◌, ◌↔◌, length, None, Some, IfOk, IfSome, OnErr, IsErrOf};
-ghost use Rattle.coff_read.specs.ObjectFaults.{object_tests};
+ghost use Rattle.coff_read.specs.EitherObject.{form_in};
+ghost use Rattle.coff_read.specs.FormFaults.{object_tests};
 ghost use Rattle.pe_image.specs.ImageOf.{IsImageOf};
 ghost use Rattle.pe_image.specs.ImageTests.{image_tests};
 ghost use Rattle.pe_json.specs.ExportRows.{AreNamesOf};
@@ -24,7 +25,7 @@ use crate::findings::{findings_of, own_findings};
 use crate::image::{Content, write_image, write_plain_image};
 use crate::object::write_object;
 use crate::refused::{RefusedImage, refuse, refuse_laid_out, refuse_unlaid};
-use coff_read::ObjectFile;
+use coff_read::EitherObject;
 use pe_delay::read_delay_imports;
 use pe_image::Image;
 use pe_layout::Layout;
@@ -39,10 +40,10 @@ use std::alloc::{AllocError, Allocator};
 /// Checks an object, and adds its line.
 fn write_object_line<W: Sink>(text: &mut TextWriter<W>, name: &[u8], file: &[u8]) -> Outcome
     requires { IsReady W.failures text.old }
-    ensures verdict { IsOutcomeOf (object_tests file.now) result }
+    ensures verdict { IsOutcomeOf (object_tests (form_in file.now) file.now) result }
     ensures adds { Adds W.taken W.failures text.old text.new (object_file_line name.now file.now result) }
 {
-    match ObjectFile::new(file) {
+    match EitherObject::new(file) {
         Ok(object) => {
             write_object(text, name, &object);
             Outcome::Done

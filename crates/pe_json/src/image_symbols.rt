@@ -8,7 +8,7 @@ ghost use Rattle.pe_json.specs.Listed.{items_text, more};
 ghost use Rattle.pe_json.specs.SymbolRows.{indexed_row, symbol_members, symbols_unless};
 
 use crate::symbols::write_next;
-use coff_read::ImageSymbols;
+use coff_read::{ImageSymbols, WideSymbol};
 use pe_head::Headers;
 use pe_text::{Sink, TextWriter};
 use pe_view::View;
@@ -24,7 +24,7 @@ fn write_rows<A: Allocator + Copy, W: Sink>(text: &mut TextWriter<W>, symbols: I
         if text.has_failed() {
             return;
         }
-        write_next(text, first, index, &symbol);
+        write_next(text, first, false, index, &symbol.wide());
         first = false;
     }
 }

@@ -23,6 +23,7 @@
 mod auxiliary;
 mod beginning;
 mod beyond;
+mod big_header;
 mod bound_imports;
 mod certificates;
 mod debug;

@@ -2,8 +2,8 @@
 
 ghost use Rattle.std.specs.Prelude.{◌∷◌, [], true, map};
 ghost use Rattle.coff_read.specs.FileView.{file_section_view, relocations_view};
-ghost use Rattle.coff_read.specs.ObjectFile.{file_of};
-ghost use Rattle.coff_read.specs.Reading.{object_of};
+ghost use Rattle.coff_read.specs.EitherObject.{form_of, file_of};
+ghost use Rattle.coff_read.specs.FormReading.{object_of};
 ghost use Rattle.pe_text.specs.TextWriter.{IsReady, Adds};
 ghost use Rattle.pe_json.specs.JsonText.{list, numbered_rows};
 ghost use Rattle.pe_json.specs.Listed.{items_text, more};
@@ -11,7 +11,7 @@ ghost use Rattle.pe_json.specs.ObjectLine.{relocation_numbers, relocation_row, r
 
 use crate::sections::write_members;
 use crate::string::{write_number, write_text_if};
-use coff_read::{FileSection, ObjectFile, Relocation, Relocations, relocation_type_name};
+use coff_read::{EitherObject, FileSection, Relocation, Relocations, relocation_type_name};
 use pe_head::SectionHeader;
 use pe_text::{Sink, TextWriter};
 
@@ -120,10 +120,10 @@ fn write_next_section<W: Sink>(
 }
 
 /// Adds the sections in table order.
-fn write_rows<W: Sink>(text: &mut TextWriter<W>, object: &ObjectFile)
+fn write_rows<W: Sink>(text: &mut TextWriter<W>, object: &EitherObject)
     requires { IsReady W.failures text.old }
     ensures { Adds W.taken W.failures text.old text.new
-        (items_text true (numbered_rows (object_section_row (object_of (file_of object.now)).machine) 1 (sections_of (file_of object.now)))) }
+        (items_text true (numbered_rows (object_section_row (object_of (form_of object.now) (file_of object.now)).machine) 1 (sections_of (form_of object.now) (file_of object.now)))) }
 {
     for index in 0..object.section_count() {
         if text.has_failed() {
@@ -144,10 +144,10 @@ fn write_rows<W: Sink>(text: &mut TextWriter<W>, object: &ObjectFile)
 }
 
 /// Adds the list of an object's sections.
-pub(crate) fn write_sections<W: Sink>(text: &mut TextWriter<W>, object: &ObjectFile)
+pub(crate) fn write_sections<W: Sink>(text: &mut TextWriter<W>, object: &EitherObject)
     requires { IsReady W.failures text.old }
     ensures { Adds W.taken W.failures text.old text.new
-        (list (numbered_rows (object_section_row (object_of (file_of object.now)).machine) 1 (sections_of (file_of object.now)))) }
+        (list (numbered_rows (object_section_row (object_of (form_of object.now) (file_of object.now)).machine) 1 (sections_of (form_of object.now) (file_of object.now)))) }
 {
     text.text(b"[");
     write_rows(text, object);

@@ -1,4 +1,7 @@
 mod Bytes
+mod LayingOut
+mod Moving
+mod PartsWriting
 mod Rows
 mod Sections
 mod Writing

@@ -1,5 +1,5 @@
 -- Bytes that are written one after the other.
-use Rattle.std.proofs.Common.{◌≡◌, ◌∙◌, ℕ, ◌+◌, List, ◌++◌, length, take, drop, Result, Ok, Err, sym, ap, append_assoc}
+use Rattle.std.proofs.Common.{◌≡◌, ◌∙◌, ℕ, ◌+◌, List, ◌++◌, length, take, drop, Result, Ok, Err, is_err, true, false, sym, ap, append_assoc}
 use Rattle.std.proofs.Math.Seq.{take-append_seam, take-append-add}
 use Rattle.std.proofs.lemmas.List.{take-append-drop}
 use Rattle.pe_text.specs.declared.device.Failed.{Failed}
@@ -24,3 +24,16 @@ pub both : (before mid now a b : List ℕ) (c0 c1 c2 : ℕ) (result : Result (Un
     → WritesAll mid now c1 c2 result b → WritesAll before now c0 c2 result (a ++ b)
 both before mid now a b c0 c1 c2 (Ok x) first count written = (written.0 ∙ ap (λ (xs : List ℕ). xs ++ b) first ∙ append_assoc before a b, written.1 ∙ count)
 both before mid now a b c0 c1 c2 (Err e) first count written = (in_second before mid now a b written.0.0 first written.0.1, written.1 ∙ ap (λ (n : ℕ). n + 1) count)
+
+-- what was written, where the result was only asked whether it is an error
+pub wrote_all : (before now piece : List ℕ) (count count' : ℕ) (result : Result (Unit {0}) Failed) → is_err result ≡ false → WritesAll before now count count' result piece → now ≡ before ++ piece
+wrote_all before now piece count count' (Ok x) not_err written = written.0
+wrote_all before now piece count count' (Err e) not_err written = absurd cc
+
+pub wrote_some : (before now piece : List ℕ) (count count' : ℕ) (result : Result (Unit {0}) Failed) → is_err result ≡ true → WritesAll before now count count' result piece → (k : ℕ) × (now ≡ before ++ take k piece)
+wrote_some before now piece count count' (Ok x) err written = absurd cc
+wrote_some before now piece count count' (Err e) err written = written.0
+
+pub counted_all : (before now piece : List ℕ) (count count' : ℕ) (result : Result (Unit {0}) Failed) → is_err result ≡ false → WritesAll before now count count' result piece → count' ≡ count
+counted_all before now piece count count' (Ok x) not_err written = written.1
+counted_all before now piece count count' (Err e) not_err written = absurd cc

@@ -1,2 +1,4 @@
+pub mod ByParts
+pub mod Copied
 pub mod ImageFile
 pub mod Pieces

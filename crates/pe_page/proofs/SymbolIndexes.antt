@@ -5,26 +5,27 @@ use Rattle.std.specs.List.{All}
 use Rattle.std.proofs.lemmas.List.{map-append, get_or-map, length-map}
 use Rattle.std.proofs.lemmas.List.Elements.{All-cons}
 use Rattle.std.proofs.lemmas.List.Kept.{AllPairs-cons}
-use Rattle.coff_read.specs.Reading.{aux_count, symbols_from}
-use Rattle.coff_read.specs.SymbolsLeft.{indexed}
+use Rattle.coff_read.specs.BigLeft.{indexed}
+use Rattle.coff_read.specs.FormReading.{aux_count, symbols_from}
+use Rattle.coff_read.specs.Forms.{Form}
 
 -- the first of each pair
 abbrev pub indexes : {X : Type 0} → List (ℕ × X) → List ℕ
 indexes {X} items = map (λ (item : ℕ × X). item.0) items
 
-module _ (file : List ℕ) where
-  above : (low k left skip : ℕ) → low < k → All (λ r. low < r) (symbols_from file k left skip)
+module _ (big : Form) (file : List ℕ) where
+  above : (low k left skip : ℕ) → low < k → All (λ r. low < r) (symbols_from big file k left skip)
   above low k zero skip less = λ j d lt. absurd (omega arith)
-  above low k (suc left) zero less = All-cons (λ r. low < r) k (symbols_from file (k + 1) left (aux_count file k)) less (above low (k + 1) left (aux_count file k) (omega arith))
+  above low k (suc left) zero less = All-cons (λ r. low < r) k (symbols_from big file (k + 1) left (aux_count big file k)) less (above low (k + 1) left (aux_count big file k) (omega arith))
   above low k (suc left) (suc skip) less = above low (k + 1) left skip (omega arith)
 
-  pub symbols_ascend : (k left skip : ℕ) → AllPairs (λ r later. r < later) (symbols_from file k left skip)
+  pub symbols_ascend : (k left skip : ℕ) → AllPairs (λ r later. r < later) (symbols_from big file k left skip)
   symbols_ascend k zero skip = λ i j d less lt. absurd (omega arith)
   symbols_ascend k (suc left) zero =
-      AllPairs-cons (λ r later. r < later) k (symbols_from file (k + 1) left (aux_count file k)) (above k (k + 1) left (aux_count file k) (omega arith)) (symbols_ascend (k + 1) left (aux_count file k))
+      AllPairs-cons (λ r later. r < later) k (symbols_from big file (k + 1) left (aux_count big file k)) (above k (k + 1) left (aux_count big file k) (omega arith)) (symbols_ascend (k + 1) left (aux_count big file k))
   symbols_ascend k (suc left) (suc skip) = symbols_ascend (k + 1) left skip
 
-  pub indexes-indexed : (records : List ℕ) → indexes (indexed file records) ≡ records
+  pub indexes-indexed : (records : List ℕ) → indexes (indexed big file records) ≡ records
   indexes-indexed [] = refl
   indexes-indexed (k ∷ records) = ap (λ (l : List ℕ). k ∷ l) (indexes-indexed records)
 

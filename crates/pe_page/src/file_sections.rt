@@ -1,12 +1,12 @@
 //! The sections of an object as its file has them.
 
-use coff_read::{FileSection, ObjectFile, RawData};
+use coff_read::{EitherObject, FileSection, RawData};
 use std::alloc::{AllocError, Allocator};
 
 /// The sections of an object.
 pub fn read_sections<'a, A: Allocator + Copy>(
     alloc: A,
-    object: &ObjectFile<'a>,
+    object: &EitherObject<'a>,
 ) -> Result<Vec<FileSection<'a>, A>, AllocError> {
     let mut sections = Vec::with_capacity(alloc, object.section_count())?;
     for section in object.each_section(alloc) {

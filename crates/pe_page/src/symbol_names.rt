@@ -4,7 +4,7 @@ ghost use Rattle.std.specs.Prelude.{◌≡◌, ◌==◌, ◌<◌, ◌≤◌, All
 ghost use Rattle.std.specs.List.{find};
 ghost use Rattle.std.specs.List.Sorted.{IsPartitionPoint};
 
-use coff_read::ObjectFile;
+use coff_read::EitherObject;
 use std::alloc::{AllocError, Allocator};
 
 /// The names of an object's symbols, by the index of the symbol's record.
@@ -43,7 +43,7 @@ impl<'a, A: Allocator + Copy> SymbolNames<'a, A> {
     /// The names of an object's symbols, or none if they are not needed; then it allocates nothing.
     pub fn new(
         alloc: A,
-        object: &ObjectFile<'a>,
+        object: &EitherObject<'a>,
         is_wanted: bool,
     ) -> Result<SymbolNames<'a, A>, AllocError> {
         let mut names = Vec::new(alloc);

@@ -249,15 +249,17 @@ static EXPLAINED: [Explained; 72] = [
     (61, None, "an empty file"),
     (
         62,
-        Some("It begins with MZ, with !<arch>, or with the first two fields of an import object."),
-        "a library: use petool archive; an image: use petool dump or petool show",
+        Some(
+            "It begins with MZ, with !<arch>, or with Machine 0 and 0xffff sections, as import objects and big objects do. Where a big object is read, its version is under 2, or its class another.",
+        ),
+        "a library: use petool archive; an image: use petool dump or petool show; a big object: use petool object --big",
     ),
     (
         63,
         Some(
-            "The section table comes after the optional header and has 40 bytes for each section.",
+            "The section table comes after the optional header, or after the header of a big object, and has 40 bytes for each section.",
         ),
-        "a file of another kind, or an object that was cut off; /bigobj objects",
+        "a file of another kind, or an object that was cut off",
     ),
     (
         64,
@@ -278,7 +280,7 @@ static EXPLAINED: [Explained; 72] = [
     ),
     (
         67,
-        Some("A record has 18 bytes."),
+        Some("A record has 18 bytes, and 20 in a big object."),
         "an object that was cut off",
     ),
     (
@@ -294,7 +296,7 @@ static EXPLAINED: [Explained; 72] = [
     (70, None, "a damaged symbol table"),
     (
         71,
-        Some("ABSOLUTE is 0xffff, and DEBUG 0xfffe."),
+        Some("ABSOLUTE is 0xffff, and DEBUG 0xfffe; in a big object 0xffffffff and 0xfffffffe."),
         "a damaged symbol table",
     ),
     (
@@ -302,20 +304,20 @@ static EXPLAINED: [Explained; 72] = [
         Some("Auxiliary symbol records count too."),
         "a damaged relocation, or an object whose symbols were stripped",
     ),
-    (81, None, "a caller of write_object"),
+    (81, None, "a caller of write_object or write_big_object"),
     (
         82,
         Some("A section header has room for seven decimal digits of the offset."),
-        "a caller of write_object",
+        "a caller of write_object or write_big_object",
     ),
-    (83, None, "a caller of write_object"),
-    (84, None, "a caller of write_object"),
+    (83, None, "a caller of write_object or write_big_object"),
+    (84, None, "a caller of write_object or write_big_object"),
     (
         85,
         Some(
-            "Optional bytes, sections, symbols or relocations do not fit their fields, or the file would have fault 62.",
+            "Optional bytes, sections, symbols or relocations do not fit their fields, or the file would have fault 62. An object of more than 65,535 sections is written as a big object, which stores no optional header and no characteristics.",
         ),
-        "a caller of write_object",
+        "a caller of write_object or write_big_object",
     ),
     (
         91,

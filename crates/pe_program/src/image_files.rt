@@ -5,7 +5,7 @@ use crate::new_file::{refuse_target, refuse_word};
 use crate::statuses::{DONE, REFUSED};
 use crate::target::Target;
 use crate::word_bytes::{bytes_of, is_marked};
-use pe_tool::{Counted, MapFile, MappedImages, Policy, SetEntry};
+use pe_tool::{Counted, MapError, MapFile, MappedImages, Policy, SetEntry};
 use std::alloc::{AllocError, Allocator};
 use std::fs;
 use std::io::Error;
@@ -133,18 +133,33 @@ where
     DONE
 }
 
+/// The images of a set, with delay-loaded imports bound too if `is_delayed` is set.
+fn open_images<'a, A: Allocator + Copy>(
+    alloc: A,
+    set: &[SetEntry<'a>],
+    policy: Policy,
+    is_delayed: bool,
+) -> Result<MappedImages<'a, A>, MapError> {
+    if is_delayed {
+        MappedImages::open_delayed(alloc, set, policy)
+    } else {
+        MappedImages::open(alloc, set, policy)
+    }
+}
+
 /// Writes the images of an accepted set to a folder, unless they have too many bytes together, and returns the exit status.
 pub(crate) fn write_images<R: Files + Print + Eprint + Alloc>(
     rt: &R,
     folder: ImageFolder<'_>,
     policy: Policy,
+    is_delayed: bool,
     set: &[SetEntry],
     files: &[MapFile],
 ) -> u8
 where
     R::A: Copy,
 {
-    let Ok(images) = MappedImages::open(rt.alloc(), set, policy) else {
+    let Ok(images) = open_images(rt.alloc(), set, policy, is_delayed) else {
         return refuse_map(rt);
     };
     let size = images.total_size();

@@ -1,6 +1,8 @@
 //! The faults of bindings, whose messages name the import.
 
+use pe_delay::read_delay_imports;
 use pe_image::{import_at, lay_out};
+use pe_layout::Layout;
 use pe_tables::{Import, Key};
 use pe_tool::{FaultText, ShownName};
 use pe_view::{Fault, Place};
@@ -17,8 +19,23 @@ fn slot_of(fault: &Fault) -> Option<u32> {
     }
 }
 
-/// The import whose slot a fault names, if it names one and memory suffices. The file's headers and import table are read again,
-/// since a refused set keeps nothing of them.
+/// The delay-loaded import with this slot, if there is one and memory suffices.
+fn delayed_at<'a, A: Allocator + Copy>(
+    alloc: A,
+    layout: &Layout<'a>,
+    slot: u32,
+) -> Option<Import<'a>> {
+    let imports = read_delay_imports(alloc, layout).ok()?;
+    for import in &imports {
+        if import.slot == slot {
+            return Some(*import);
+        }
+    }
+    None
+}
+
+/// The import whose slot a fault names, if it names one and memory suffices: of the import table, or else a delay-loaded one. The
+/// file's headers and tables are read again, since a refused set keeps nothing of them.
 pub(crate) fn import_of<'a, A: Allocator + Copy>(
     alloc: A,
     file: &'a [u8],
@@ -26,7 +43,10 @@ pub(crate) fn import_of<'a, A: Allocator + Copy>(
 ) -> Option<Import<'a>> {
     let slot = slot_of(fault)?;
     let layout = lay_out(file, fault.image).ok()?;
-    import_at(alloc, &layout, slot).ok()?
+    match import_at(alloc, &layout, slot).ok()? {
+        Some(import) => Some(import),
+        None => delayed_at(alloc, &layout, slot),
+    }
 }
 
 /// Reports a fault of a binding, with the import's module and its name, or `#` and its ordinal.

@@ -1,5 +1,7 @@
 //! The command `layout`: writes the laid-out image of a file.
 
+ghost use Rattle.std.specs.Prelude.{◌-◌, ◌^◌, ◌<◌, ◌≤◌, OnOk};
+
 use crate::file_job::tell;
 use crate::input::{InputFile, name_of, open_file};
 use crate::messages::{refuse_memory, refuse_path};
@@ -7,28 +9,50 @@ use crate::new_file::{print_refusal, refuse_target, refuse_word, target_name};
 use crate::statuses::{DONE, REFUSED};
 use crate::target::Target;
 use crate::texts::Printed;
-use pe_tool::{Counted, ImageFile, Outcome, ShownName, ToolError, lay_out_file, size_fault};
+use pe_tool::{
+    Counted, ImageFile, Outcome, Placed, ShownName, Sink, ToolError, lay_out_file, lay_out_parts,
+    size_fault,
+};
 use std::alloc::Allocator;
 use std::io::{Input, Read, Seek, Write};
 use std::rt::Files;
 
-/// Writes the laid-out image of a file to the target, if it has at most `most` bytes. `size` is that of the file, if it is known.
+/// Writes the laid-out image of an open file of `size` bytes, if its first bytes have all headers and these no fault: then no more of
+/// it is read than is written. `None` means that they do not, and that nothing was written.
+fn write_parts<A: Allocator + Copy, F: Read + Seek, W: Sink>(
+    alloc: A,
+    most: u64,
+    file: &mut F,
+    size: u64,
+    writer: &mut W,
+) -> Result<Option<ImageFile>, ToolError>
+    requires { W.failures writer.old < 2 ^ 64 - 1 }
+    ensures { OnOk result (W.failures writer.new ≤ W.failures writer.old) }
+{
+    lay_out_parts(alloc, &mut Placed::new(file), size, most, writer)
+}
+
+/// Writes the laid-out image of an open file to the target, if it has at most `most` bytes. `size` is that of the file, if it is known.
 fn write_layout<A: Allocator + Copy>(
     alloc: A,
     most: u64,
-    source: impl Read + Drop,
+    mut file: impl Read + Seek + Drop,
     size: Option<u64>,
     target: impl Write + Drop,
 ) -> Result<ImageFile, ToolError> {
-    if let Some(fault) = size_fault(size.unwrap_or(0)) {
-        return Ok(ImageFile::Refused(fault));
+    let mut writer = Counted::new(target);
+    if let Some(size) = size {
+        if let Some(fault) = size_fault(size) {
+            return Ok(ImageFile::Refused(fault));
+        }
+        if let Some(image) = write_parts(alloc, most, &mut file, size, &mut writer)? {
+            return Ok(image);
+        }
+        if file.rewind().is_err() {
+            return Err(ToolError::Read);
+        }
     }
-    lay_out_file(
-        alloc,
-        &mut Counted::new(source),
-        most,
-        &mut Counted::new(target),
-    )
+    lay_out_file(alloc, &mut Counted::new(file), most, &mut writer)
 }
 
 /// Reports that an image is larger than allowed, and returns the exit status.

@@ -7,7 +7,7 @@ use crate::messages::{
     STANDARD_OUTPUT, refuse_map, refuse_memory, refuse_path, tell_failure, tell_fault,
 };
 use crate::statuses::DONE;
-use crate::texts::{Printed, Text, print_text};
+use crate::texts::{MapReport, Printed, Text, print_text};
 use crate::word_bytes::bytes_of;
 use pe_tool::{
     Counted, MapFile, Outcome, Policy, SetEntry, ToolError, fault_detail, map_report, read_enough,
@@ -32,11 +32,8 @@ type Content<A> = (Vec<u8, A>, Option<Fault>);
 /// What is printed of a set.
 #[derive(Clone, Copy)]
 enum Asked<'a> {
-    /// The report, if `is_unbound` is set with the imports that are bound to nothing.
-    Report {
-        window: Option<(u64, u32)>,
-        is_unbound: bool,
-    },
+    /// The report.
+    Report(MapReport),
     /// What is at these addresses.
     Places(&'a [u64]),
 }
@@ -195,11 +192,10 @@ fn text_of<'a, F>(
 ) -> Text<'a, F> {
     match (large, asked) {
         (Some(fault), _) => Text::Refusal(fault),
-        (None, Asked::Report { window, is_unbound }) => Text::Map {
+        (None, Asked::Report(report)) => Text::Map {
             set,
             policy,
-            window,
-            is_unbound,
+            report,
         },
         (None, Asked::Places(addresses)) => Text::AtMap {
             set,
@@ -250,6 +246,14 @@ where
     status(&printed.answer)
 }
 
+/// Whether delay-loaded imports are bound too.
+fn is_delayed(asked: Asked<'_>) -> bool {
+    match asked {
+        Asked::Report(report) => report.is_delayed,
+        Asked::Places(_) => false,
+    }
+}
+
 /// Maps files and prints what is asked for, then writes each image to a folder, if there is one, and returns the exit status.
 fn print_map<R: Files + Input + Print + Eprint + Alloc>(
     rt: &R,
@@ -278,7 +282,9 @@ where
     let text: Text<'_, R::File> = text_of(&set, policy, asked, fault);
     let status = tell_set(rt, files, &set, print_text(rt, text));
     match folder {
-        Some(folder) if status == DONE => write_images(rt, folder, policy, &set, files),
+        Some(folder) if status == DONE => {
+            write_images(rt, folder, policy, is_delayed(asked), &set, files)
+        }
         _ => status,
     }
 }
@@ -293,11 +299,12 @@ pub fn run_map<R: Files + Input + Print + Eprint + Alloc>(
 where
     R::A: Copy,
 {
-    let asked = Asked::Report {
+    let report = MapReport {
         window,
+        is_delayed: false,
         is_unbound: false,
     };
-    print_map(rt, policy, asked, None, files)
+    run_report(rt, policy, report, files)
 }
 
 /// Maps files and prints the imports that are bound to nothing too, and returns the exit status.
@@ -310,20 +317,33 @@ pub fn run_map_unbound<R: Files + Input + Print + Eprint + Alloc>(
 where
     R::A: Copy,
 {
-    let asked = Asked::Report {
+    let report = MapReport {
         window,
+        is_delayed: false,
         is_unbound: true,
     };
-    print_map(rt, policy, asked, None, files)
+    run_report(rt, policy, report, files)
 }
 
-/// Maps files and prints what is asked for, then writes each image as it stands in the space to a folder, and returns the exit
-/// status. If a file of the folder cannot be written, as when it is an input, nothing is.
+/// Maps files and prints a report, and returns the exit status.
+pub(crate) fn run_report<R: Files + Input + Print + Eprint + Alloc>(
+    rt: &R,
+    policy: Policy,
+    report: MapReport,
+    files: &[MapFile],
+) -> u8
+where
+    R::A: Copy,
+{
+    print_map(rt, policy, Asked::Report(report), None, files)
+}
+
+/// Maps files and prints a report, then writes each image as it stands in the space to a folder, and returns the exit status. If a
+/// file of the folder cannot be written, as when it is an input, nothing is.
 pub(crate) fn run_map_write<R: Files + Input + Print + Eprint + Alloc>(
     rt: &R,
     policy: Policy,
-    window: Option<(u64, u32)>,
-    is_unbound: bool,
+    report: MapReport,
     folder: ImageFolder<'_>,
     files: &[MapFile],
 ) -> u8
@@ -332,10 +352,7 @@ where
 {
     match refuse_folder(rt, folder.path, files) {
         Some(status) => status,
-        None => {
-            let asked = Asked::Report { window, is_unbound };
-            print_map(rt, policy, asked, Some(folder), files)
-        }
+        None => print_map(rt, policy, Asked::Report(report), Some(folder), files),
     }
 }
 

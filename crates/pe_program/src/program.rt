@@ -8,10 +8,10 @@ use crate::extraction::{Part, run_extraction};
 use crate::file_job::{run_file, run_files};
 use crate::image_files::ImageFolder;
 use crate::layout_job::run_layout;
-use crate::map_job::{run_at_map, run_map, run_map_unbound, run_map_write};
+use crate::map_job::{run_at_map, run_map, run_map_unbound, run_map_write, run_report};
 use crate::rebase_job::{NewFile, run_rebase};
 use crate::resource_job::run_resource;
-use crate::texts::Engine;
+use crate::texts::{Engine, MapReport};
 use pe_tool::{Beyond, Colours, Job, JsonOptions, Page, ShowOptions, parse_words};
 use std::env::FillError;
 use std::io::Input;
@@ -76,6 +76,15 @@ fn show_engine(rt: &impl Env, options: ShowOptions, colours: Colours, is_termina
             ..options
         },
         width: width_of(rt),
+    }
+}
+
+/// The engine of `object`, for a command that reads big objects too or not.
+fn object_engine(reads_big: bool) -> Engine<'static> {
+    if reads_big {
+        Engine::EitherObject
+    } else {
+        Engine::Object
     }
 }
 
@@ -145,10 +154,16 @@ pub fn run<R: Files + Input + Env + Print + Eprint + AllocGlobal>(rt: &R, is_ter
         Ok(Job::DumpMost { most, file }) => {
             run_file(rt, Engine::Dump, Some(most), file.as_str())
         }
-        Ok(Job::Object { file }) => run_file(rt, Engine::Object, None, file.as_str()),
-        Ok(Job::ObjectMost { most, file }) => {
-            run_file(rt, Engine::Object, Some(most), file.as_str())
+        Ok(Job::Object { reads_big, file }) => {
+            run_file(rt, object_engine(reads_big), None, file.as_str())
         }
+        Ok(
+            Job::ObjectMost {
+                reads_big,
+                most,
+                file,
+            },
+        ) => run_file(rt, object_engine(reads_big), Some(most), file.as_str()),
         Ok(Job::Archive { most, file }) => run_file(rt, Engine::Archive, most, file.as_str()),
         Ok(Job::ArchiveMember { file, name, index }) => run_extraction(
             rt,
@@ -174,9 +189,27 @@ pub fn run<R: Files + Input + Env + Print + Eprint + AllocGlobal>(rt: &R, is_ter
             },
         ) => run_map_unbound(rt, policy, window, &files),
         Ok(
+            Job::MapDelayed {
+                policy,
+                window,
+                is_unbound,
+                files,
+            },
+        ) => run_report(
+            rt,
+            policy,
+            MapReport {
+                window,
+                is_delayed: true,
+                is_unbound,
+            },
+            &files,
+        ),
+        Ok(
             Job::MapWrite {
                 policy,
                 window,
+                is_delayed,
                 is_unbound,
                 most,
                 folder,
@@ -185,8 +218,11 @@ pub fn run<R: Files + Input + Env + Print + Eprint + AllocGlobal>(rt: &R, is_ter
         ) => run_map_write(
             rt,
             policy,
-            window,
-            is_unbound,
+            MapReport {
+                window,
+                is_delayed,
+                is_unbound,
+            },
             ImageFolder {
                 path: folder.as_str(),
                 most,

@@ -8,8 +8,9 @@ use pe_tool::{
     Beyond, Counted, Detail, FileKind, Outcome, Page, PartSource, Placed, Policy, SetEntry,
     ShowOptions, Sink, Source, Spot, ToolError, ViewFile, archive_json, archive_json_text,
     archive_text, at_each_sized, at_each_text, at_map, check_parts, check_sized, check_text,
-    dump_object_sized, dump_parts, dump_sized, dump_text, fault_detail, file_kind, json_parts,
-    json_sized, map_report, map_report_unbound, object_text, print_line, read_up_to, read_whole,
+    dump_either_object_sized, dump_object_sized, dump_parts, dump_sized, dump_text,
+    either_object_text, fault_detail, file_kind, json_parts, json_sized, map_report,
+    map_report_delayed, map_report_unbound, object_text, print_line, read_up_to, read_whole,
     resource_list_sized, resource_list_text, show_archive, show_archive_text, show_page_sized,
     show_page_text, size_fault, sum_sized, sum_text, write_refusal,
 };
@@ -30,6 +31,8 @@ pub enum Engine<'e> {
     Dump,
     /// `pe_tool::dump_object`
     Object,
+    /// `pe_tool::dump_either_object`
+    EitherObject,
     /// `pe_tool::dump_archive`
     Archive,
     /// `pe_tool::show_page`, or of an archive `pe_tool::show_archive`
@@ -51,6 +54,17 @@ pub enum Engine<'e> {
     Resources,
 }
 
+/// What the report of `map` has.
+#[derive(Clone, Copy)]
+pub(crate) struct MapReport {
+    /// The window whose bytes it has, if any: the address of the first, and how many.
+    pub window: Option<(u64, u32)>,
+    /// Whether delay-loaded imports are bound too.
+    pub is_delayed: bool,
+    /// Whether it has the imports that are bound to nothing.
+    pub is_unbound: bool,
+}
+
 /// What to print.
 #[derive(Drop)]
 pub(crate) enum Text<'a, F> {
@@ -64,12 +78,11 @@ pub(crate) enum Text<'a, F> {
         most: Option<u64>,
         file: F,
     },
-    /// The report of `map`, if `is_unbound` is set with the imports that are bound to nothing.
+    /// The report of `map`.
     Map {
         set: &'a [SetEntry<'a>],
         policy: Policy,
-        window: Option<(u64, u32)>,
-        is_unbound: bool,
+        report: MapReport,
     },
     /// What is at addresses of the address space of a set.
     AtMap {
@@ -135,6 +148,7 @@ enum Lines<'e> {
     Check,
     Dump,
     Object,
+    EitherObject,
     Sum,
     At(&'e [Spot<'e>]),
     Resources,
@@ -156,6 +170,7 @@ fn lines_of<A: Allocator + Copy, W: Sink>(
         Lines::Check => check_text(alloc, file, writer),
         Lines::Dump => dump_text(alloc, file, writer),
         Lines::Object => object_text(alloc, file, writer),
+        Lines::EitherObject => either_object_text(alloc, file, writer),
         Lines::Sum => sum_text(alloc, file, writer),
         Lines::At(spots) => at_each_text(alloc, spots, file, writer),
         Lines::Resources => resource_list_text(alloc, file, writer),
@@ -297,6 +312,7 @@ fn write_whole<A: Allocator + Copy, R: Source, W: Sink>(
         Engine::Check => write_lines(alloc, Lines::Check, reader, writer),
         Engine::Dump => write_lines(alloc, Lines::Dump, reader, writer),
         Engine::Object => write_lines(alloc, Lines::Object, reader, writer),
+        Engine::EitherObject => write_lines(alloc, Lines::EitherObject, reader, writer),
         Engine::Archive => (write_archive(alloc, reader, writer), None),
         Engine::Show { options, width } => {
             let page = Page {
@@ -337,6 +353,11 @@ fn write_sized<A: Allocator + Copy, R: Source, W: Sink>(
             (dump_object_sized(alloc, reader, size, writer), None)
         }
         Engine::Object => write_lines(alloc, Lines::Object, reader, writer),
+        Engine::EitherObject if is_too_large(size) => (
+            dump_either_object_sized(alloc, reader, size, writer),
+            None,
+        ),
+        Engine::EitherObject => write_lines(alloc, Lines::EitherObject, reader, writer),
         Engine::Archive => match size_fault(size) {
             Some(fault) => (write_refusal(writer, fault), None),
             None => (write_archive(alloc, reader, writer), None),
@@ -484,6 +505,30 @@ fn write_regular<A: Allocator + Copy>(
     write_sized(alloc, engine, name, &mut reader, size, &mut writer)
 }
 
+/// Writes the report of a set.
+fn write_map<A: Allocator + Copy, W: Sink>(
+    alloc: A,
+    set: &[SetEntry],
+    policy: Policy,
+    report: MapReport,
+    writer: &mut W,
+) -> Result<Outcome, ToolError>
+    requires { W.failures writer.old < 2 ^ 64 - 1 }
+{
+    let MapReport {
+        window,
+        is_delayed,
+        is_unbound,
+    } = report;
+    if is_delayed {
+        map_report_delayed(alloc, set, policy, is_unbound, window, writer)
+    } else if is_unbound {
+        map_report_unbound(alloc, set, policy, window, writer)
+    } else {
+        map_report(alloc, set, policy, window, writer)
+    }
+}
+
 /// Runs an engine.
 fn write_text<A: Allocator + Copy>(
     alloc: A,
@@ -511,16 +556,10 @@ fn write_text<A: Allocator + Copy>(
         Text::Map {
             set,
             policy,
-            window,
-            is_unbound,
+            report,
         } => {
             let mut writer = Counted::new(writer);
-            let done = if is_unbound {
-                map_report_unbound(alloc, set, policy, window, &mut writer)
-            } else {
-                map_report(alloc, set, policy, window, &mut writer)
-            };
-            (done, None)
+            (write_map(alloc, set, policy, report, &mut writer), None)
         }
         Text::AtMap {
             set,

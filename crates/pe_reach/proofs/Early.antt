@@ -1,7 +1,7 @@
 -- Faults that the first bytes of a file and its size decide.
-use Rattle.std.proofs.Common.{◌≡◌, ℕ, ◌^◌, ◌<◌, ◌≤◌, Bool, true, false, List, length, Some, refl, sym, ◌∙◌, ap, subst, arith, get_or}
-use Rattle.std.specs.Prelude.{◌==◌, Option, None, IfSome, if◌then◌else◌}
-use Rattle.std.proofs.lemmas.Bool.{le-ltb, lt-ltb}
+use Rattle.std.proofs.Common.{◌≡◌, ℕ, ◌^◌, ◌<◌, ◌≤◌, Bool, true, false, List, length, Some, refl, sym, ◌∙◌, ◌+◌, ap, ap₂, subst, arith, get_or}
+use Rattle.std.specs.Prelude.{◌==◌, ◌||◌, Option, None, IfSome, if◌then◌else◌}
+use Rattle.std.proofs.lemmas.Bool.{le-ltb, lt-ltb, le-leb}
 use Rattle.std.proofs.lemmas.List.{get_or-take, length-take}
 use Rattle.pe_view.specs.declared.fault.Fault.{Fault}
 use Rattle.pe_view.specs.declared.fault.Place.TheVariants.{File}
@@ -13,12 +13,15 @@ use Rattle.pe_head.specs.HeaderFaults.{head_tests}
 use Rattle.pe_layout.specs.Image.{image_of_file}
 use Rattle.pe_layout.specs.SectionFaults.{layout_tests, placing_tests}
 use Rattle.pe_image.specs.ImageTests.{image_tests, table_tests}
+use Rattle.coff_read.specs.EitherObject.{form_in}
+use Rattle.coff_read.specs.FormFaults as form_faults
+use Rattle.coff_read.specs.Forms.{Form}
 use Rattle.coff_read.specs.ObjectFaults.{object_tests}
-use Rattle.pe_text.specs.FileKind.{is_machine, is_object, kind_of}
+use Rattle.pe_text.specs.FileKind.{is_machine, begins_big_object, is_object, kind_of}
 use Rattle.pe_reach.specs.Reach.{Begins, Refuse}
 use Rattle.pe_reach.specs.Views.{RefuseView}
 use Rattle.pe_reach.proofs.Headers.{num_agrees}
-use Rattle.pe_reach.proofs.Marks.{object_by_machine}
+use Rattle.pe_reach.proofs.Marks.{object_by_mark}
 
 -- a fault of the headers is the first of all
 in_image : (file : List ℕ) (fault : Fault) → first_standing (head_tests 0 file) ≡ Some fault → first_standing (image_tests 0 file) ≡ Some fault
@@ -45,32 +48,60 @@ refuse_other begin len small some two other = λ file b.
     in_image file _ (no_image file (omega (arith, b.size, small)) (omega (arith, b.size, some)) (ap (λ n. n == 0x5a4d) (mark_agrees begin len file two b) ∙ other))
 
 -- ---- as an object or as an image
+-- the numbers in the first bytes
+numbers_agree : (begin : List ℕ) (len : ℕ) (file : List ℕ) → Begins begin len file → (place width : ℕ) → place + width ≤ length begin → num (byte_of file) place width ≡ num (byte_of begin) place width
+numbers_agree begin len file b place width within =
+    num_agrees (length begin) (byte_of file) (byte_of begin) (λ k lt. sym (get_or-take (length begin) file k 0 (omega (arith, lt))) ∙ ap (λ (l : List ℕ). get_or l k 0) b.begins) place width within
+
+-- files that begin alike are both big objects, or neither
+same_big : (begin : List ℕ) (len : ℕ) (file : List ℕ) → 16 ≤ length begin → Begins begin len file → begins_big_object file ≡ begins_big_object begin
+same_big begin len file long b =
+    let both : 16 ≤ length file = omega (arith, long, ap (λ (l : List ℕ). length l) b.begins, length-take (length begin) file) in
+    rw (
+      le-leb 16 (length file) both,
+      le-leb 16 (length begin) long,
+      numbers_agree begin len file b 0 4 (omega (arith, long)),
+      numbers_agree begin len file b 4 2 (omega (arith, long)),
+      numbers_agree begin len file b 12 4 (omega (arith, long)),
+    ) refl
+
 -- files that begin alike are both checked as objects, or neither
-same_kind : (begin : List ℕ) (len : ℕ) (file : List ℕ) → 2 ≤ length begin → Begins begin len file → is_object (kind_of file) ≡ is_object (kind_of begin)
-same_kind begin len file two b =
-    let long : 2 ≤ length file = omega (arith, two, ap (λ (l : List ℕ). length l) b.begins, length-take (length begin) file) in
-    object_by_machine file long ∙ ap is_machine (mark_agrees begin len file two b) ∙ sym (object_by_machine begin two)
+same_kind : (begin : List ℕ) (len : ℕ) (file : List ℕ) → 16 ≤ length begin → Begins begin len file → is_object (kind_of file) ≡ is_object (kind_of begin)
+same_kind begin len file long b =
+    let both : 2 ≤ length file = omega (arith, long, ap (λ (l : List ℕ). length l) b.begins, length-take (length begin) file) in
+    object_by_mark file both
+    ∙ ap₂ (λ (m big : Bool). m || big) (ap is_machine (mark_agrees begin len file (omega (arith, long)) b)) (same_big begin len file long b)
+    ∙ sym (object_by_mark begin (omega (arith, long)))
 
 pub object_too_large : (file : List ℕ) → 2 ^ 32 < length file → first_standing (object_tests file) ≡ Some (record { number = 61; image = 0; place = File (length file) })
 unfolding object_tests
 object_too_large file lt = rw (le-ltb (length file) 20 (omega (arith, lt)), lt-ltb (2 ^ 32) (length file) lt) refl
+
+large_in : (big : Form) (file : List ℕ) → 2 ^ 32 < length file → first_standing (form_faults.object_tests big file) ≡ Some (record { number = 61; image = 0; place = File (length file) })
+unfolding form_faults.object_tests
+large_in false file lt = rw (le-ltb (length file) 20 (omega (arith, lt)), lt-ltb (2 ^ 32) (length file) lt) refl
+large_in true file lt = rw (le-ltb (length file) 56 (omega (arith, lt)), lt-ltb (2 ^ 32) (length file) lt) refl
+
+-- in either form
+pub either_too_large : (file : List ℕ) → 2 ^ 32 < length file → first_standing (form_faults.object_tests (form_in file) file) ≡ Some (record { number = 61; image = 0; place = File (length file) })
+either_too_large file lt = large_in (form_in file) file lt
 
 pub refuse_large : (begin : List ℕ) (len : ℕ) (fault : Option Fault) → IfSome fault (λ fault. (file : List ℕ) → length file ≡ len → first_standing (head_tests 0 file) ≡ Some fault) → IfSome fault (λ fault. Refuse len begin fault)
 refuse_large begin len None is = tt
 refuse_large begin len (Some fault) is = λ file b. in_image file fault (is file b.size)
 
 -- a fault of each image, or of each object, that begins so
-pub refuse_image : (begin : List ℕ) (len : ℕ) (fault : Option Fault) → 2 ≤ length begin → is_object (kind_of begin) ≡ false → IfSome fault (λ fault. Refuse len begin fault) → IfSome fault (λ fault. RefuseView len begin fault)
-refuse_image begin len None two other refuse = tt
-refuse_image begin len (Some fault) two other refuse = λ file b.
-    subst (λ (object : Bool). first_standing (if object then object_tests file else image_tests 0 file) ≡ Some fault)
-    (sym (same_kind begin len file two b ∙ other))
+pub refuse_image : (begin : List ℕ) (len : ℕ) (fault : Option Fault) → 16 ≤ length begin → is_object (kind_of begin) ≡ false → IfSome fault (λ fault. Refuse len begin fault) → IfSome fault (λ fault. RefuseView len begin fault)
+refuse_image begin len None long other refuse = tt
+refuse_image begin len (Some fault) long other refuse = λ file b.
+    subst (λ (object : Bool). first_standing (if object then form_faults.object_tests (form_in file) file else image_tests 0 file) ≡ Some fault)
+    (sym (same_kind begin len file long b ∙ other))
     (refuse file b)
 
-pub refuse_object : (begin : List ℕ) (len : ℕ) (fault : Option Fault) → 2 ≤ length begin → is_object (kind_of begin) ≡ true
-    → IfSome fault (λ fault. (file : List ℕ) → length file ≡ len → first_standing (object_tests file) ≡ Some fault) → IfSome fault (λ fault. RefuseView len begin fault)
-refuse_object begin len None two object refuse = tt
-refuse_object begin len (Some fault) two object refuse = λ file b.
-    subst (λ (object : Bool). first_standing (if object then object_tests file else image_tests 0 file) ≡ Some fault)
-    (sym (same_kind begin len file two b ∙ object))
+pub refuse_object : (begin : List ℕ) (len : ℕ) (fault : Option Fault) → 16 ≤ length begin → is_object (kind_of begin) ≡ true
+    → IfSome fault (λ fault. (file : List ℕ) → length file ≡ len → first_standing (form_faults.object_tests (form_in file) file) ≡ Some fault) → IfSome fault (λ fault. RefuseView len begin fault)
+refuse_object begin len None long object refuse = tt
+refuse_object begin len (Some fault) long object refuse = λ file b.
+    subst (λ (object : Bool). first_standing (if object then form_faults.object_tests (form_in file) file else image_tests 0 file) ≡ Some fault)
+    (sym (same_kind begin len file long b ∙ object))
     (refuse file b.size)

@@ -15,7 +15,7 @@ use Rattle.pe_text.specs.declared.outcome.ToolError.TheVariants.{Read, Write, Me
 use Rattle.pe_parts.specs.AtHand.{can_decide_tables}
 use Rattle.pe_parts.specs.Packed.{IsPacked, moved}
 use Rattle.pe_reach.specs.Reach.{headers_end}
-use Rattle.pe_reach.specs.Parts.{Part, HasParts}
+use Rattle.pe_reach.specs.Parts.{Part, HasPart, HasParts}
 use Rattle.pe_reach.specs.Views.{names_under}
 use Rattle.pe_reach.specs.declared.parts_reading.Parts.{Parts}
 
@@ -89,6 +89,14 @@ packed_headers h len = with_sections h (packed_from h len h.size_of_headers h.se
 -- a file of a length has all raw data of a section
 abbrev pub IsRawInside : ℕ → SectionHeader → Type 0
 IsRawInside len s = 0 < rawlen s → s.pointer_to_raw_data + rawlen s ≤ len
+
+-- bytes begin each file of a length that has them first: it has these headers, which are among the bytes, and none of faults 1 to 15
+pub record BeginAll (len : ℕ) (h : Headers) (bytes : List ℕ) : Type 0 where
+  pub size : length bytes ≡ 4096
+  pub within : 2 ^ 16 ≤ len
+  pub small : len ≤ 2 ^ 32
+  pub covers : h.size_of_headers ≤ 4096
+  pub each : (file : List ℕ) → length file ≡ len → HasPart file (record { offset = 0; bytes = bytes }) → (head_of file ≡ h) × (first_standing (layout_tests 0 file) ≡ None)
 
 -- these are parts of a file, which has none of faults 1 to 15
 pub record AreOf {A : Type 0} (parts : Parts A) (file : List ℕ) : Type 0 where

@@ -5,7 +5,8 @@ use Rattle.pe_view.specs.Faults.{Test, first_standing}
 use Rattle.pe_head.specs.declared.headers.Headers.{Headers}
 use Rattle.pe_head.specs.Head.{head_of}
 use Rattle.coff_read.specs.ImageNames.{image_strings, section_name}
-use Rattle.coff_read.specs.ObjectFaults.{object_tests}
+use Rattle.coff_read.specs.EitherObject.{form_in}
+use Rattle.coff_read.specs.FormFaults.{object_tests}
 use Rattle.pe_image.specs.ImageTests.{image_tests}
 use Rattle.pe_text.specs.declared.file_beginning.FileKind.TheVariants.{Image}
 use Rattle.pe_text.specs.FileKind.{kind_of, tests_by_kind}
@@ -36,7 +37,7 @@ IsSeen ended len bytes told = (IsWhole ended bytes × (told ≡ length bytes)) �
 
 -- the tests of a file as views check it: those of an object if its first bytes are those of one, otherwise those of an image
 abbrev pub view_tests : List ℕ → List Test
-view_tests file = tests_by_kind file (object_tests file) (image_tests 0 file)
+view_tests file = tests_by_kind file (object_tests (form_in file) file) (image_tests 0 file)
 
 -- bytes refuse each file of a length that begins with them, by a fault
 abbrev pub RefuseView : ℕ → List ℕ → Fault → Type 0

@@ -4,11 +4,14 @@
 //! reads a file of a known size up to there. [`early_fault`] is a fault that the first bytes decide, and [`view_fault`] one of a
 //! file that may be an object. [`run_sized`] is the engine of a report over such a file.
 //!
+//! [`read_beginning`] reads the first bytes of a file, which decide its headers.
+//!
 //! Views also show the names of sections, which may come after that end. [`read_view`] reads as much as they show, and they see it
 //! as a [`ViewFile`], which hands out no bytes of an image. [`run_view`] is the engine of a [`ViewReport`] over such a file.
 //! [`read_whole_tables`] reads what views show of the tables of a refused image.
 #![tactic(auto)]
 
+mod beginning;
 pub mod laws;
 mod names;
 mod part_names;
@@ -24,6 +27,7 @@ mod view_reading;
 mod view_report;
 mod whole_tables;
 
+pub use beginning::{Beginning, read_beginning};
 pub use part_names::read_names;
 pub use part_source::{PartSource, Placed};
 pub use parts_reading::{Parts, read_parts};

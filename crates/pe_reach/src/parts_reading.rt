@@ -22,10 +22,10 @@ use pe_view::View;
 use std::alloc::Allocator;
 
 /// How many bytes are read first; the headers and section tables that linkers write are among them.
-const FIRST: usize = 1 << 12;
+pub(crate) const FIRST: usize = 1 << 12;
 
 /// A file of fewer bytes is read faster as a whole.
-const LEAST: u64 = 1 << 16;
+pub(crate) const LEAST: u64 = 1 << 16;
 
 /// Parts of an image's file: its headers, and the raw data of some sections, packed.
 ///
@@ -82,7 +82,7 @@ fn can_begin(len: u64, count: usize) -> bool
 
 /// The headers of each file of `len` bytes that begins with these, twice, if these have all of them and they have none of faults 1
 /// to 15.
-fn headers_in(begin: &[u8], len: u64) -> Option<(Headers, Headers)>
+pub(crate) fn headers_in(begin: &[u8], len: u64) -> Option<(Headers, Headers)>
     ensures exact { is_some result ≡ has_headers len begin.now }
     ensures same { IfSome result (λ both. (both.0 ≡ head_of begin.now) × (both.1 ≡ head_of begin.now)) }
     ensures held { IfSome result (λ both. both.0.size_of_headers ≤ length begin.now) }

@@ -4,6 +4,8 @@
 ghost use Rattle.std.specs.Prelude.{◌≡◌, ◌≤◌, ◌^◌, ℕ, List, length, max, map, ◌++◌, IfSome, Some, is_some, nat_lt};
 ghost use Rattle.std.specs.List.{range_with_len};
 ghost use Rattle.pe_head.specs.Checked.{checked_file};
+ghost use Rattle.coff_read.specs.EitherObject.{form_in};
+ghost use Rattle.coff_read.specs.FormFaults as form_faults;
 ghost use Rattle.coff_read.specs.ObjectFaults.{object_tests};
 ghost use Rattle.pe_view.specs.Faults.{first_standing};
 ghost use Rattle.pe_head.specs.Head.{coff_field, section_at};
@@ -91,6 +93,7 @@ pub fn size_fault(len: u64) -> Option<Fault>
 pub fn object_size_fault(len: u64) -> Option<Fault>
     ensures exact { is_some result ≡ nat_lt (2 ^ 32) len }
     ensures fault { IfSome result (λ fault. (file : List ℕ) → length file ≡ len → first_standing (object_tests file) ≡ Some fault) }
+    ensures either { IfSome result (λ fault. (file : List ℕ) → length file ≡ len → first_standing (form_faults.object_tests (form_in file) file) ≡ Some fault) }
 {
     if len <= MOST {
         return None;
@@ -123,12 +126,15 @@ pub fn early_fault(begin: &[u8], len: u64) -> Option<Fault>
     }
 }
 
+/// How many first bytes say whether a file is checked as an object.
+const KIND_BYTES: usize = 16;
+
 /// The fault of each file of `len` bytes that begins with these, which is checked as views check it: that of [`object_size_fault`]
 /// if it begins like an object, and otherwise that of [`early_fault`]. `None` does not mean that it has no fault.
 pub fn view_fault(begin: &[u8], len: u64) -> Option<Fault>
     ensures { IfSome result (λ fault. RefuseView len begin.now fault) }
 {
-    if begin.len() < 2 {
+    if begin.len() < KIND_BYTES {
         return None;
     }
     if is_object(begin) {

@@ -46,7 +46,7 @@ pub struct ObjectRelocationRow {
 
 impl<'a> ObjectSectionRow<'a> {
     /// A section as C has it.
-    fn of(section: FileSection<'a>) -> ObjectSectionRow<'a>
+    pub fn of(section: FileSection<'a>) -> ObjectSectionRow<'a>
         ensures { section_text result ≡ section_row (file_section_view section.entry) }
     {
         let (bytes, absent_size): (&'a [u8], u32) = match section.raw {
@@ -67,7 +67,7 @@ impl<'a> ObjectSectionRow<'a> {
 
 impl ObjectRelocationRow {
     /// A relocation as C has it.
-    fn of(relocation: Relocation) -> ObjectRelocationRow
+    pub fn of(relocation: Relocation) -> ObjectRelocationRow
         ensures { result ≡ relocation_row relocation }
     {
         ObjectRelocationRow {
@@ -107,7 +107,7 @@ pub fn tell_sections<'a>(
 }
 
 /// Fills the first rows with the relocations after the first `skipped` ones.
-fn put_relocations(rows: &mut [ObjectRelocationRow], relocations: &Relocations, skipped: usize)
+pub fn put_relocations(rows: &mut [ObjectRelocationRow], relocations: &Relocations, skipped: usize)
     ensures { FillsRelocations (drop skipped (relocations_view relocations.now)) rows.old rows.new }
 {
     let count = rows.len().min(relocations.len().saturating_sub(skipped));
@@ -138,7 +138,7 @@ pub fn tell_relocations(
 
 /// Adds the relocations of a section to rows that hold the `earlier` ones of earlier sections; the first `skipped` of all are left
 /// out.
-fn put_more_relocations(
+pub fn put_more_relocations(
     rows: &mut [ObjectRelocationRow],
     earlier: usize,
     relocations: &Relocations,

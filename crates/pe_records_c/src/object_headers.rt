@@ -57,7 +57,7 @@ pub struct SectionHeaderRow {
 
 impl SectionHeaderRow {
     /// A section header as C has it.
-    fn of(header: &SectionHeader) -> SectionHeaderRow
+    pub fn of(header: &SectionHeader) -> SectionHeaderRow
         ensures { result ≡ section_header_row header.now }
     {
         SectionHeaderRow {

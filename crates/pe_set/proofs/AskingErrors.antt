@@ -7,7 +7,7 @@ use Rattle.pe_set.specs.SetErrors.{ErrorIs, first_error}
 use Rattle.pe_set.specs.declared.error.MapError.{MapError}
 use Rattle.pe_set.specs.declared.error.MapError.TheVariants as errors
 
-error_past : (front rest : List MapError) → first_error front ≡ None → first_error (front ++ rest) ≡ first_error rest
+pub error_past : (front rest : List MapError) → first_error front ≡ None → first_error (front ++ rest) ≡ first_error rest
 error_past [] rest none = refl
 error_past (error ∷ front) rest none = absurd cc
 
@@ -20,6 +20,13 @@ pub error-whole : (part whole : Option MapError) → ((error : MapError) → par
 error-whole part whole first errors.Memory is = tt
 error-whole part whole first (errors.Fault fault) is = first (errors.Fault fault) is
 error-whole part whole first (errors.Cycle fault length) is = first (errors.Cycle fault length) is
+
+-- the error of the first of two parts, and of the second if the first has none
+pub error-front : (front rest : List MapError) (error : MapError) → ErrorIs (first_error front) error → ErrorIs (first_error (front ++ rest)) error
+error-front front rest error is = error-whole (first_error front) (first_error (front ++ rest)) (error_in front rest) error is
+
+pub error-back : (front rest : List MapError) (error : MapError) → first_error front ≡ None → ErrorIs (first_error rest) error → ErrorIs (first_error (front ++ rest)) error
+error-back front rest error none is = rw (error_past front rest none) is
 
 module _ {X Y : Type 0} (view : X → Y) (f : ℕ → Y → List MapError) (xs : List X) (i : ℕ) (x : X) (next : drop i xs ≡ x ∷ drop (i + 1) xs)
     (rest : first_error (numbered f i (map view (drop i xs))) ≡ first_error (numbered f 0 (map view xs))) where

@@ -1,9 +1,10 @@
 -- The error of a set, class by class.
-use Rattle.std.proofs.Common.{◌≡◌, ◌∙◌, Bool, true, false, cond, List, [], ◌∷◌, ◌++◌, Option, Some, None, refl, sym, ap}
+use Rattle.std.proofs.Common.{◌≡◌, ◌∙◌, Bool, true, false, cond, List, [], ◌∷◌, ◌++◌, Option, Some, None, refl, sym, ap, append_assoc}
 use Rattle.pe_view.specs.declared.fault.Fault.{Fault}
 use Rattle.pe_view.specs.Faults.{Test, first_standing}
+use Rattle.pe_view.specs.FirstStanding.{first-past, first-in}
 use Rattle.pe_set.specs.Set.{Entry, modules_of}
-use Rattle.pe_set.specs.SetFaults.{RefusesClass, names_tests, files_tests, places_tests}
+use Rattle.pe_set.specs.SetFaults.{RefusesClass, names_tests, files_tests, places_tests, placed_tests}
 use Rattle.pe_set.specs.SetErrors.{imports_errors, first_error, faults_in, set_errors, set_error, ErrorIs}
 use Rattle.pe_set.specs.declared.entry.Policy.{Policy}
 use Rattle.pe_set.specs.declared.error.MapError.{MapError}
@@ -63,3 +64,34 @@ pub of_imports : (policy : Policy) (es : List Entry) → first_standing (names_t
     → first_standing (places_tests (modules_of es)) ≡ None → set_error policy es ≡ first_error (imports_errors policy (modules_of es))
 unfolding set_errors
 of_imports policy es names files places = past (names_tests es) _ names ∙ past (files_tests es) _ files ∙ past (places_tests (modules_of es)) _ places
+
+-- ---- names, files and places together
+-- a refusal by the first class of several, and one by a later class
+pub first_of : (tests later : List Test) (error : MapError) → RefusesClass tests error → RefusesClass (tests ++ later) error
+first_of tests later errors.Memory refused = tt
+first_of tests later (errors.Fault fault) refused = first-in tests later fault refused
+first_of tests later (errors.Cycle fault length) refused = absurd refused
+
+pub later_of : (tests later : List Test) (error : MapError) → first_standing tests ≡ None → RefusesClass later error → RefusesClass (tests ++ later) error
+later_of tests later errors.Memory none refused = tt
+later_of tests later (errors.Fault fault) none refused = first-past tests later none ∙ refused
+later_of tests later (errors.Cycle fault length) none refused = absurd refused
+
+faults-append : (tests later : List Test) → faults_in (tests ++ later) ≡ faults_in tests ++ faults_in later
+faults-append [] later = refl
+faults-append (t ∷ tests) later = step t.stands (errors.Fault t.fault) (faults_in tests) (faults_in (tests ++ later)) (faults-append tests later)
+  where
+    step : (b : Bool) (error : MapError) (own all : List MapError) → all ≡ own ++ faults_in later → cond b (error ∷ all) all ≡ cond b (error ∷ own) own ++ faults_in later
+    step true error own all is = ap (λ es. error ∷ es) is
+    step false error own all is = is
+
+pub placed_first : (policy : Policy) (es : List Entry) → set_errors policy es ≡ faults_in (placed_tests es) ++ imports_errors policy (modules_of es)
+unfolding set_errors
+placed_first policy es =
+    let names = faults_in (names_tests es) in
+    let files = faults_in (files_tests es) in
+    let places = faults_in (places_tests (modules_of es)) in
+    let imports = imports_errors policy (modules_of es) in
+    sym (ap (λ xs. xs ++ imports) (faults-append (names_tests es) (files_tests es ++ places_tests (modules_of es)) ∙ ap (λ xs. names ++ xs) (faults-append (files_tests es) (places_tests (modules_of es))))
+    ∙ append_assoc names (files ++ places) imports
+    ∙ ap (λ xs. names ++ xs) (append_assoc files places imports))

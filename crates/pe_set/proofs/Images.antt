@@ -1,5 +1,5 @@
 -- What holds for each image of an accepted set, by the laws of images.
-use Rattle.std.proofs.Common.{◌≡◌, ◌∙◌, ◌+◌, ◌<◌, ◌≤◌, ◌^◌, ℕ, List, ◌++◌, length, map, None, Some, sym, ap, subst, arith}
+use Rattle.std.proofs.Common.{◌≡◌, ◌∙◌, ◌+◌, ◌<◌, ◌≤◌, ◌^◌, ℕ, List, ◌++◌, length, map, None, Some, refl, sym, ap, subst, arith}
 use Rattle.std.specs.Prelude.{slice_get, option_map, All, AllPairs}
 use Rattle.std.proofs.lemmas.Option.{slice_get-map}
 use Rattle.pe_view.specs.Faults.{first_standing}
@@ -48,11 +48,13 @@ pub record IsFreeSlot (m : Module) (x : Import) : Type 0 where
   pub inside : x.slot + slot_width_of m.magic ≤ m.image.size
   pub off_fields : All (λ (f : Fixup). AreApart (bytes_of m x) (range_of f)) m.fixups
 
-pub record IsKnown (m : Module) : Type 0 where
+-- an image with at most so many imports, whose slots and fields are sound
+pub record IsKnown (most : ℕ) (m : Module) : Type 0 where
   pub image : IsSoundImage m
+  pub width : m.image.slot_width ≡ slot_width_of m.magic
   pub slots : All (IsFreeSlot m) m.imports
   pub slots_apart : AllPairs (IsApart (slot_width_of m.magic)) m.imports
-  pub slots_few : length m.imports ≤ 1048576
+  pub slots_few : length m.imports ≤ most
   pub targets : (key : Key) (rva : ℕ) → target_at m.exports key ≡ Some (Rva rva) → rva < m.image.size
 
 -- fields that share no byte with slots, from the side of a slot
@@ -69,7 +71,7 @@ slot_off w imports fixups off k x at =
 
 module _ (laws : Laws) where
   -- the image of a file without a fault
-  of_file : (n : ℕ) (e : Entry) → first_standing (image_tests n e.file) ≡ None → IsKnown (module_of n e)
+  of_file : (n : ℕ) (e : Entry) → first_standing (image_tests n e.file) ≡ None → IsKnown 1048576 (module_of n e)
   unfolding image_tests table_tests
   of_file n e none =
       let i : LaidOut = image_of_file n e.file in
@@ -90,6 +92,7 @@ module _ (laws : Laws) where
           apart = laws.fields_apart i slots d.1;
           few = laws.fields_few i slots small d.1;
         };
+        width = refl;
         slots = all_got (IsFreeSlot m) m.imports (λ k x at. record {
           inside = got_all (λ (x : Import). x.slot + i.slot_width ≤ i.size) (imports_of i) k x inside at;
           off_fields = slot_off i.slot_width (imports_of i) (fixups_of i) off k x at;
@@ -100,10 +103,10 @@ module _ (laws : Laws) where
       }
 
   -- image j of a set of files without a fault
-  pub known : (es : List Entry) → first_standing (files_tests es) ≡ None → (j : ℕ) (m : Module) → slice_get (modules_of es) j ≡ Some m → IsKnown m
+  pub known : (es : List Entry) → first_standing (files_tests es) ≡ None → (j : ℕ) (m : Module) → slice_get (modules_of es) j ≡ Some m → IsKnown 1048576 m
   unfolding files_tests modules_of
   known es none j m at =
       let from = entry_at es j m at in
       let here : 0 + j ≡ j = omega arith in
       let own = ap (λ k. first_standing (image_tests k from.0.file)) (sym here) ∙ numbered_none (λ i (e : Entry). image_tests i e.file) 0 es j from.0 none from.1 in
-      subst IsKnown (sym from.2) (of_file j from.0 own)
+      subst (IsKnown 1048576) (sym from.2) (of_file j from.0 own)

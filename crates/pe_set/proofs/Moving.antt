@@ -17,7 +17,7 @@ use Rattle.pe_set.proofs.Places.{Fits, fits, Stands, stands, all_stand, none_bef
 use Rattle.pe_set.proofs.Staying.{accepted_at}
 
 -- a set with image i at a base
-abbrev moved : List Module → ℕ → ℕ → List Module
+abbrev pub moved : List Module → ℕ → ℕ → List Module
 moved [] i base = []
 moved (m ∷ s) zero base = record m { base = base } ∷ s
 moved (m ∷ s) (suc i) base = m ∷ moved s i base
@@ -35,7 +35,7 @@ rebased_one [] i base = refl
 rebased_one (m ∷ s) zero base = ap (λ (t : List Module). record m { base = base } ∷ t) (at_own_bases s)
 rebased_one (m ∷ s) (suc i) base = ap (λ t. m ∷ t) (rebased_one s i base)
 
-images_moved : (es : List Entry) (i base : ℕ) → modules_of (at_bases (slice_set (bases_of es) i base) es) ≡ moved (modules_of es) i base
+pub images_moved : (es : List Entry) (i base : ℕ) → modules_of (at_bases (slice_set (bases_of es) i base) es) ≡ moved (modules_of es) i base
 unfolding modules_of
 images_moved es i base =
     images_at (slice_set (bases_of es) i base) es
@@ -138,7 +138,7 @@ module _ (s : List Module) (i base : ℕ) (before : first_standing (places_tests
         };
       }
 
-  moved_stand : first_standing (places_tests (moved s i base)) ≡ None
+  pub moved_stand : first_standing (places_tests (moved s i base)) ≡ None
   moved_stand = all_stand (moved s i base) (λ j m at. elim (got_moved s i base j m at) [
     | inl here ↦ mover_stands j here.1.0 m here.0 here.1.1 here.1.2
     | inr other ↦ other_stands j m other.0 other.1

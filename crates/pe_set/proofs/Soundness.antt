@@ -1,8 +1,10 @@
 -- The fields and bound slots of an accepted set are sound, and so are the places of its images.
-use Rattle.std.proofs.Common.{◌≡◌, ◌∙◌, ◌+◌, ◌*◌, ◌%◌, ◌≤◌, ℕ, zero, suc, List, [], ◌∷◌, length, None, Some, refl, sym, ap, subst, arith}
+use Rattle.std.proofs.Common.{◌≡◌, ◌∙◌, ◌+◌, ◌*◌, ◌%◌, ◌<◌, ◌≤◌, ◌^◌, ℕ, zero, suc, List, [], ◌∷◌, length, None, Some, refl, sym, ap, subst, arith}
 use Rattle.std.specs.Prelude.{slice_get, All, AllPairs}
 use Rattle.std.proofs.lemmas.Bool.{ltb-false}
-use Rattle.std.proofs.lemmas.List.Elements.{All-weaker}
+use Rattle.std.proofs.lemmas.List.{length-map}
+use Rattle.std.proofs.lemmas.List.Elements.{All-map, All-weaker}
+use Rattle.std.proofs.lemmas.Nat.{mul-le}
 use Rattle.std.proofs.lemmas.Option.{same_Some, option_and_then_some}
 use Rattle.pe_view.specs.Faults.{first_standing}
 use Rattle.pe_layout.specs.Image.{slot_width_of}
@@ -12,12 +14,14 @@ use Rattle.pe_tables.specs.Imports.{Import}
 use Rattle.pe_tables.specs.Key.{Key, Rva}
 use Rattle.pe_ranges.specs.Ranges.{AreApart}
 use Rattle.pe_set.specs.Bindings.{bound_to, binding_of, bindings_in, bindings_of}
+use Rattle.pe_set.specs.DelayedErrors.{delayed_error}
+use Rattle.pe_set.specs.DelayedImports.{delayed_in, with_imports, with_delayed}
 use Rattle.pe_set.specs.Numbered.{numbered}
 use Rattle.pe_set.specs.Placement.{address_limit}
 use Rattle.pe_set.specs.Search.{resolve}
 use Rattle.pe_set.specs.SearchEnds.{EndsAs}
 use Rattle.pe_set.specs.Set.{Entry, Module, modules_of, placement_of}
-use Rattle.pe_set.specs.SetFaults.{places_tests}
+use Rattle.pe_set.specs.SetFaults.{names_tests, files_tests, places_tests}
 use Rattle.pe_set.specs.SetErrors.{set_error}
 use Rattle.pe_set.specs.Sound.{IsSoundImage, IsSoundBinding, SlotsApart, IsSound, slot_of}
 use Rattle.pe_set.specs.declared.binding.Binding.{Binding}
@@ -27,9 +31,11 @@ use Rattle.pe_set.specs.declared.search.Resolution.TheVariants.{Bound, Missing, 
 use Rattle.pe_set.proofs.Classes.{modules_count}
 use Rattle.pe_set.proofs.Distinct.{few_entries}
 use Rattle.pe_set.proofs.Ending.{ends}
-use Rattle.pe_set.proofs.Faultless.{classes}
+use Rattle.pe_set.proofs.DelayedSound.{DelayLaws, all_known}
+use Rattle.pe_set.proofs.Faultless.{classes, delayed_classes}
 use Rattle.pe_set.proofs.Gathered.{all_got, pairs_got, AllPairs-nil, AllPairs-append, all_given, pairs_given, few_given, all_numbered, few_numbered}
 use Rattle.pe_set.proofs.Images.{Laws, IsFreeSlot, IsKnown, known}
+use Rattle.pe_set.proofs.NumberedLists.{pairs_mapped}
 use Rattle.pe_set.proofs.Places.{aligned_base, stands, none_before, apart_unless}
 
 -- ---- bindings
@@ -53,7 +59,7 @@ own_image s i m =
     (λ x b own is. ap (λ (b : Binding). b.image) (bound_parts i x.slot (resolve s x.module_name x.key) b is).3)
     m.imports (λ k d lt. tt)
 
-module _ (s : List Module) (each : (j : ℕ) (m : Module) → slice_get s j ≡ Some m → IsKnown m) where
+module _ (s : List Module) (most : ℕ) (each : (j : ℕ) (m : Module) → slice_get s j ≡ Some m → IsKnown most m) where
   slot_bound : (i : ℕ) (m : Module) (x : Import) (b : Binding) → slice_get s i ≡ Some m → IsFreeSlot m x → binding_of s i x ≡ Some b → IsSoundBinding s b
   slot_bound i m x b at own is =
       let parts = bound_parts i x.slot (resolve s x.module_name x.key) b is in
@@ -111,9 +117,9 @@ module _ (s : List Module) (each : (j : ℕ) (m : Module) → slice_get s j ≡ 
   unfolding bindings_of
   all_apart = pairs_from 0 s (λ i m at. let here : 0 + i ≡ i = omega arith in subst (λ (k : ℕ). slice_get s k ≡ Some m) (sym here) at)
 
-  few_bound : length (bindings_of s) ≤ length s * 1048576
+  few_bound : length (bindings_of s) ≤ length s * most
   unfolding bindings_of
-  few_bound = few_numbered (bindings_in s) 1048576 0 s (λ i m at.
+  few_bound = few_numbered (bindings_in s) most 0 s (λ i m at.
       let given = few_given (binding_of s (0 + i)) m.imports in
       let few = (each i m at).slots_few in
       omega (arith, given, few))
@@ -132,23 +138,70 @@ module _ (s : List Module) (none : first_standing (places_tests s) ≡ None) whe
       (λ i j m other lt at_i at_j. apart_unless other.base other.image.size m.base m.image.size
       (none_before (placement_of other) s i j m (stands s none j other at_j).fits.free lt at_i))
 
--- an accepted set is sound
-pub accepted_sound : Laws → (policy : Policy) (es : List Entry) → set_error policy es ≡ None → IsSound (modules_of es)
-accepted_sound laws policy es none =
-    let s = modules_of es in
-    let ok = classes policy es none in
-    let each = known laws es ok.files in
-    let count = modules_count es in
-    let entries = few_entries es ok.names in
-    let few : length s ≤ 256 = omega (arith, count, entries) in
-    let slots = few_bound s each in
+-- ---- the set
+-- where its images are
+pub record ArePlaced (s : List Module) : Type 0 where
+  pub aligned : All (λ (m : Module). m.base % 65536 ≡ 0) s
+  pub room : All (λ (m : Module). m.base + m.image.size ≤ address_limit m.magic) s
+  pub apart : AllPairs (λ (m other : Module). AreApart (m.base, m.image.size) (other.base, other.image.size)) s
+
+placed : (s : List Module) → first_standing (places_tests s) ≡ None → ArePlaced s
+placed s none = record { aligned = whole_bases s none; room = below_limit s none; apart = images_apart s none }
+
+-- a set of known images at such places is sound
+sound : (s : List Module) (most : ℕ) → ((j : ℕ) (m : Module) → slice_get s j ≡ Some m → IsKnown most m) → most ≤ 2097152 → length s ≤ 256 → ArePlaced s → IsSound s
+sound s most each some few at =
+    let slots = few_bound s most each in
     record {
       few = few;
       images = all_got IsSoundImage s (λ j m at. (each j m at).image);
-      aligned = whole_bases s ok.places;
-      room = below_limit s ok.places;
-      apart = images_apart s ok.places;
-      slots = all_bound s each;
-      slots_apart = all_apart s each;
-      few_slots = omega (arith, few, slots);
+      aligned = at.aligned;
+      room = at.room;
+      apart = at.apart;
+      slots = all_bound s most each;
+      slots_apart = all_apart s most each;
+      few_slots = few_product (length s) most (length (bindings_of s)) slots few some;
     }
+  where
+    few_product : (n most slots : ℕ) → slots ≤ n * most → n ≤ 256 → most ≤ 2097152 → slots < 2 ^ 32
+    few_product n most slots le few some =
+        let less = mul-le n most 256 2097152 few some in
+        omega (arith, le, less)
+
+pub images_sound : Laws → (es : List Entry) → first_standing (files_tests es) ≡ None → All IsSoundImage (modules_of es)
+images_sound laws es none = all_got IsSoundImage (modules_of es) (λ j m at. (known laws es none j m at).image)
+
+few_images : (es : List Entry) → first_standing (names_tests es) ≡ None → length (modules_of es) ≤ 256
+few_images es names =
+    let count = modules_count es in
+    let entries = few_entries es names in
+    omega (arith, count, entries)
+
+-- an accepted set is sound
+pub accepted_sound : Laws → (policy : Policy) (es : List Entry) → set_error policy es ≡ None → IsSound (modules_of es)
+accepted_sound laws policy es none =
+    let ok = classes policy es none in
+    sound (modules_of es) 1048576 (known laws es ok.files) (omega arith) (few_images es ok.names) (placed (modules_of es) ok.places)
+
+-- it has few bound slots
+pub accepted_few : Laws → (policy : Policy) (es : List Entry) → set_error policy es ≡ None → length (bindings_of (modules_of es)) ≤ 256 * 1048576
+accepted_few laws policy es none =
+    let ok = classes policy es none in
+    let few = few_images es ok.names in
+    let slots = few_bound (modules_of es) 1048576 (known laws es ok.files) in
+    omega (arith, few, slots)
+
+-- with its delay-loaded imports too
+pub delayed_sound : Laws → DelayLaws → (policy : Policy) (es : List Entry) → delayed_error policy es ≡ None → IsSound (with_delayed (modules_of es))
+unfolding with_delayed
+delayed_sound laws delay policy es none =
+    let s = modules_of es in
+    let ok = delayed_classes policy es none in
+    let few = few_images es ok.names in
+    let count = length-map s (λ (m : Module). with_imports (delayed_in s m) m) in
+    let at = placed s ok.places in
+    sound (with_delayed s) 2097152 (all_known delay s (known laws es ok.files)) (omega arith) (omega (arith, few, count)) (record {
+      aligned = All-map (λ (m : Module). m.base % 65536 ≡ 0) (λ (m : Module). with_imports (delayed_in s m) m) s at.aligned;
+      room = All-map (λ (m : Module). m.base + m.image.size ≤ address_limit m.magic) (λ (m : Module). with_imports (delayed_in s m) m) s at.room;
+      apart = pairs_mapped (λ (m other : Module). AreApart (m.base, m.image.size) (other.base, other.image.size)) (λ (m : Module). with_imports (delayed_in s m) m) s at.apart;
+    })

@@ -36,7 +36,7 @@ names_from all n [] es = refl
 names_from all n (base ∷ bases) [] = refl
 names_from all n (base ∷ bases) (e ∷ es) = ap (λ (ts : List Test). name_tests all n e ++ ts) (names_from all (n + 1) bases es)
 
-names_stay : (bases : List ℕ) (es : List Entry) → names_tests (at_bases bases es) ≡ names_tests es
+pub names_stay : (bases : List ℕ) (es : List Entry) → names_tests (at_bases bases es) ≡ names_tests es
 unfolding names_tests
 names_stay bases es = names_within bases es 0 (at_bases bases es) ∙ names_from es 0 bases es
 
@@ -46,7 +46,7 @@ files_from n [] es = refl
 files_from n (base ∷ bases) [] = refl
 files_from n (base ∷ bases) (e ∷ es) = ap (λ (ts : List Test). image_tests n e.file ++ ts) (files_from (n + 1) bases es)
 
-files_stay : (bases : List ℕ) (es : List Entry) → files_tests (at_bases bases es) ≡ files_tests es
+pub files_stay : (bases : List ℕ) (es : List Entry) → files_tests (at_bases bases es) ≡ files_tests es
 unfolding files_tests
 files_stay bases es = files_from 0 bases es
 
@@ -75,7 +75,7 @@ imports_from policy s n [] t = refl
 imports_from policy s n (base ∷ bases) [] = refl
 imports_from policy s n (base ∷ bases) (m ∷ t) = ap (λ (rest : List MapError). flat_map (import_errors policy s n) m.imports ++ rest) (imports_from policy s (n + 1) bases t)
 
-imports_rebased : (policy : Policy) (bases : List ℕ) (s : List Module) → imports_errors policy (rebased bases s) ≡ imports_errors policy s
+pub imports_rebased : (policy : Policy) (bases : List ℕ) (s : List Module) → imports_errors policy (rebased bases s) ≡ imports_errors policy s
 unfolding imports_errors
 imports_rebased policy bases s = imports_within policy bases s 0 (rebased bases s) ∙ imports_from policy s 0 bases s
 

@@ -5,6 +5,9 @@ pub use Rattle.pe_tables.specs.Imports
 pub use Rattle.pe_tables.specs.TableFaults
 pub mod Bindings
 pub mod BoundImports
+pub mod DelayedErrors
+pub mod DelayedImports
+pub mod DelayedView
 pub mod EndsView
 pub mod NameLengths
 pub mod NamesView

@@ -1,5 +1,5 @@
 -- The faults of the names of a set, of each image's file, and of where the images are.
-use Rattle.std.specs.Prelude.{◌≡◌, ℕ, ◌==◌, Bool, true, false, not, List, [], ◌∷◌, take, map, None, Some, Result, Ok, Err}
+use Rattle.std.specs.Prelude.{◌≡◌, ℕ, ◌==◌, Bool, true, false, not, List, [], ◌∷◌, ◌++◌, take, map, None, Some, Result, Ok, Err}
 use Rattle.std.specs.List.{list_any}
 use Rattle.pe_view.specs.declared.fault.Place.TheVariants.{Item}
 use Rattle.pe_view.specs.Faults.{Test, test, first_standing}
@@ -10,7 +10,7 @@ use Rattle.pe_view.specs.declared.refusal.Refusal.TheVariants as refusals
 use Rattle.pe_set.specs.Numbered.{numbered}
 use Rattle.pe_image.specs.ImageTests.{image_tests}
 use Rattle.pe_set.specs.Placement.{base_tests}
-use Rattle.pe_set.specs.Set.{Entry, Module, placement_of, same_name}
+use Rattle.pe_set.specs.Set.{Entry, Module, modules_of, placement_of, same_name}
 use Rattle.pe_set.specs.declared.entry.Policy.{Policy}
 use Rattle.pe_set.specs.declared.entry.Policy.TheVariants.{Strict, Known}
 use Rattle.pe_set.specs.declared.error.MapError.{MapError}
@@ -48,6 +48,10 @@ placing_tests s i m = test 43 i (Item i) (has_other_magic s m) ∷ base_tests (m
 -- faults 43 to 47
 unfoldable pub places_tests : List Module → List Test
 places_tests s = numbered (placing_tests s) 0 s
+
+-- the faults of names, files and places
+abbrev pub placed_tests : List Entry → List Test
+placed_tests es = names_tests es ++ (files_tests es ++ places_tests (modules_of es))
 
 abbrev pub is_strict : Policy → Bool
 is_strict Strict = true

@@ -33,3 +33,8 @@ modules_view modules = map module_view modules
 pub record IsAcceptedFrom {A : Type 0} (es : List Entry) (accepted : Accepted A) : Type 0 where
   pub modules : modules_view accepted.modules.items ≡ modules_of es
   pub bindings : accepted.bindings.items ≡ bindings_of (modules_of es)
+
+-- what is accepted are the images of a set and their bindings
+pub record IsAcceptedAs {A : Type 0} (s : List Module) (accepted : Accepted A) : Type 0 where
+  pub modules : modules_view accepted.modules.items ≡ s
+  pub bindings : accepted.bindings.items ≡ bindings_of s

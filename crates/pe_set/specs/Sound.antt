@@ -1,5 +1,5 @@
 -- What holds for the images of each accepted set, and for its bound slots.
-use Rattle.std.specs.Prelude.{◌≡◌, ◌+◌, ◌*◌, ◌%◌, ◌<◌, ◌≤◌, ◌^◌, ℕ, List, Some, All, AllPairs, length, slice_get}
+use Rattle.std.specs.Prelude.{◌≡◌, ◌+◌, ◌%◌, ◌<◌, ◌≤◌, ◌^◌, ℕ, List, Some, All, AllPairs, length, slice_get}
 use Rattle.pe_layout.specs.Image.{slot_width_of}
 use Rattle.pe_tables.specs.Fixups.{width_of, range_of}
 use Rattle.pe_ranges.specs.Ranges.{AreApart}
@@ -43,4 +43,4 @@ pub record IsSound (s : List Module) : Type 0 where
   pub apart : AllPairs (λ (m other : Module). AreApart (m.base, m.image.size) (other.base, other.image.size)) s
   pub slots : All (IsSoundBinding s) (bindings_of s)
   pub slots_apart : AllPairs (SlotsApart s) (bindings_of s)
-  pub few_slots : length (bindings_of s) ≤ 256 * 1048576
+  pub few_slots : length (bindings_of s) < 2 ^ 32

@@ -42,7 +42,7 @@ pub struct Binding {
 
 /// The binding of a slot by how the search for its import ended, `None` if the slot is left as it is, or the fault: 48, 49, or 50
 /// with the length of the cycle.
-fn bound(
+pub(crate) fn bound(
     policy: Policy,
     image: u16,
     slot: u32,
@@ -79,7 +79,7 @@ fn bound(
 /// Binds the imports of image `number`, which has this layout, or returns the first of their faults 48 to 50. A module's name is
 /// looked up once for consecutive imports from it, and a long name of an export once for all imports that share it. `buffer` is
 /// scratch space for names.
-fn bind_imports<'a, A: Allocator + Copy>(
+pub(crate) fn bind_imports<'a, A: Allocator + Copy>(
     modules: &[Module<'a, A>],
     names: &Names<A>,
     policy: Policy,

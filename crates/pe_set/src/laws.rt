@@ -1,7 +1,7 @@
 //! What the definitions mean, as laws. The contract of each function here is a law, and its body only calls the laws of other
 //! crates that it uses.
 
-ghost use Rattle.std.specs.Prelude.{◌≡◌, ◌≤◌, ◌^◌, ◌↔◌, ℕ, List, [], None, Some, slice_set, map};
+ghost use Rattle.std.specs.Prelude.{◌≡◌, ◌≤◌, ◌*◌, ◌^◌, ◌↔◌, ℕ, List, [], None, Some, All, length, slice_set, map};
 ghost use Rattle.pe_view.specs.Faults.{first_standing};
 ghost use Rattle.pe_view.specs.declared.fault.Fault.{Fault};
 ghost use Rattle.pe_tables.specs.Key.{Key};
@@ -17,7 +17,9 @@ ghost use Rattle.pe_set.specs.Placement.{move_tests};
 ghost use Rattle.pe_set.specs.SetFaults.{names_tests, files_tests, places_tests};
 ghost use Rattle.pe_set.specs.SetErrors.{imports_errors, first_error, set_error, IsCycleOf};
 ghost use Rattle.pe_set.specs.declared.error.MapError.TheVariants as errors;
-ghost use Rattle.pe_set.specs.Sound.{IsSound};
+ghost use Rattle.pe_set.specs.DelayedErrors.{delayed_error};
+ghost use Rattle.pe_set.specs.DelayedImports.{with_delayed};
+ghost use Rattle.pe_set.specs.Sound.{IsSound, IsSoundImage};
 ghost use Rattle.pe_set.specs.declared.entry.Policy.{Policy};
 
 /// Each search ends in exactly one way, after any number of hops: at an RVA of an image, at a module that is not in the set, at an
@@ -69,15 +71,50 @@ pub fn cycles_are_of_endless_searches()
     ensures { (policy : Policy) (es : List Entry) (fault : Fault) (length : ℕ) → set_error policy es ≡ Some (errors.Cycle fault length) → IsCycleOf (modules_of es) fault length }
 {}
 
-/// The fields and bound slots of an accepted set lie in its images and share no byte, the exports that slots are bound to lie in
-/// its images, and its images share no address.
-pub fn accepted_sets_are_sound()
-    ensures { (policy : Policy) (es : List Entry) → set_error policy es ≡ None → IsSound (modules_of es) }
+/// The images of files without a fault have bytes, and their fields lie in them and share no byte.
+pub fn images_are_sound()
+    ensures { (es : List Entry) → first_standing (files_tests es) ≡ None → All IsSoundImage (modules_of es) }
 {
     pe_layout::laws::images_are_small();
     pe_tables::laws::slots_are_apart();
     pe_tables::laws::fields_are_apart();
     pe_tables::laws::targets_are_inside();
+}
+
+/// The fields and bound slots of an accepted set lie in its images and share no byte, the exports that slots are bound to lie in
+/// its images, and its images share no address.
+pub fn accepted_sets_are_sound()
+    ensures sound { (policy : Policy) (es : List Entry) → set_error policy es ≡ None → IsSound (modules_of es) }
+    ensures few_slots { (policy : Policy) (es : List Entry) → set_error policy es ≡ None → length (bindings_of (modules_of es)) ≤ 256 * 1048576 }
+{
+    pe_layout::laws::images_are_small();
+    pe_tables::laws::slots_are_apart();
+    pe_tables::laws::fields_are_apart();
+    pe_tables::laws::targets_are_inside();
+}
+
+/// The same holds of a set that is accepted with its delay-loaded imports, for the images with these. It has no fault of its names,
+/// files or places either, nor an error of an import or a delay-loaded import that is bound.
+pub fn delayed_sets_are_sound()
+    ensures sound { (policy : Policy) (es : List Entry) → delayed_error policy es ≡ None → IsSound (with_delayed (modules_of es)) }
+    ensures names { (policy : Policy) (es : List Entry) → delayed_error policy es ≡ None → first_standing (names_tests es) ≡ None }
+    ensures files { (policy : Policy) (es : List Entry) → delayed_error policy es ≡ None → first_standing (files_tests es) ≡ None }
+    ensures places { (policy : Policy) (es : List Entry) → delayed_error policy es ≡ None → first_standing (places_tests (modules_of es)) ≡ None }
+    ensures imports { (policy : Policy) (es : List Entry) → delayed_error policy es ≡ None → imports_errors policy (with_delayed (modules_of es)) ≡ [] }
+{
+    pe_layout::laws::images_are_small();
+    pe_tables::laws::slots_are_apart();
+    pe_tables::laws::fields_are_apart();
+    pe_tables::laws::targets_are_inside();
+    pe_delay::laws::delay_slots_are_inside();
+}
+
+/// A set that is accepted with its delay-loaded imports is accepted without them.
+pub fn delayed_sets_are_accepted_without()
+    ensures { (policy : Policy) (es : List Entry) → delayed_error policy es ≡ None → set_error policy es ≡ None }
+{
+    errors_count_class_by_class();
+    delayed_sets_are_sound();
 }
 
 /// The exports of the images of a set have at most 2^25 pairs together, if names and files of the set have no fault.
@@ -109,4 +146,20 @@ pub fn moves_keep_acceptance()
     ensures { (policy : Policy) (es : List Entry) (i base : ℕ) → set_error policy es ≡ None
         → first_standing (move_tests (map placement_of (modules_of es)) i base) ≡ None
         → set_error policy (at_bases (slice_set (bases_of es) i base) es) ≡ None }
+{}
+
+/// Nor do the delay-loaded imports that are bound depend on bases, nor what their slots are bound to.
+pub fn bases_change_no_delayed_binding()
+    ensures images { (bases : List ℕ) (es : List Entry) → with_delayed (modules_of (at_bases bases es)) ≡ rebased bases (with_delayed (modules_of es)) }
+    ensures bindings { (bases : List ℕ) (es : List Entry) → bindings_of (with_delayed (modules_of (at_bases bases es))) ≡ bindings_of (with_delayed (modules_of es)) }
+{}
+
+/// A set that is accepted with its delay-loaded imports is so at all other bases at which its images may be, and after a move of one
+/// of its images, if the move has no fault.
+pub fn delayed_sets_stay_accepted()
+    ensures placed { (policy : Policy) (es : List Entry) (bases : List ℕ) → delayed_error policy es ≡ None
+        → first_standing (places_tests (modules_of (at_bases bases es))) ≡ None → delayed_error policy (at_bases bases es) ≡ None }
+    ensures moved { (policy : Policy) (es : List Entry) (i base : ℕ) → delayed_error policy es ≡ None
+        → first_standing (move_tests (map placement_of (modules_of es)) i base) ≡ None
+        → delayed_error policy (at_bases (slice_set (bases_of es) i base) es) ≡ None }
 {}

@@ -2,7 +2,7 @@
 //! bound to.
 //!
 //! [`judge`] reads all files of a set and tests its faults in the one fixed order: names, files, places, imports. `pe_space` maps
-//! the sets that it accepts.
+//! the sets that it accepts. [`judge_delayed`] binds delay-loaded imports together with the imports.
 //!
 //! ```text
 //! let set = [SetEntry { name: b"a.dll", file, base: 0x1000_0000 }];
@@ -14,7 +14,9 @@
 //! ```
 #![tactic(auto)]
 
+mod adding;
 mod binding;
+mod delayed;
 mod ends;
 mod entry;
 mod error;
@@ -34,6 +36,6 @@ mod trails;
 pub use binding::Binding;
 pub use entry::{Policy, SetEntry};
 pub use error::MapError;
-pub use judging::{Accepted, judge};
+pub use judging::{Accepted, judge, judge_delayed};
 pub use placement::{Placed, base_fault};
 pub use reading::Module;

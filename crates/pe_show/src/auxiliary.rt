@@ -3,7 +3,7 @@
 ghost use Rattle.pe_text.specs.TextWriter.{IsReady};
 ghost use Rattle.pe_page.specs.Page.{AddsSome};
 
-use coff_read::{Aux, Symbol};
+use coff_read::{Aux, BigAux, BigSymbol, EitherObject, Symbol};
 use pe_page::Cell::{self, Plain};
 use pe_page::write_cells;
 use pe_text::Part::{Hex, Text};
@@ -38,7 +38,7 @@ fn number(number: u32) -> Cell<'static> {
 }
 
 /// Adds the COMDAT selection of a section, and the section that an associative one goes with.
-fn write_selection<W: Sink>(text: &mut TextWriter<W>, selection: u8, section: u16)
+fn write_selection<W: Sink>(text: &mut TextWriter<W>, selection: u8, section: u32)
     requires { IsReady W.failures text.old }
     ensures { AddsSome W.taken W.failures text.old text.new }
 {
@@ -51,10 +51,7 @@ fn write_selection<W: Sink>(text: &mut TextWriter<W>, selection: u8, section: u1
         &[Plain(Text(b", COMDAT ")), number(selection as u32), name],
     );
     if selection == 5 {
-        write_cells(
-            text,
-            &[Plain(Text(b" with section ")), number(section as u32)],
-        );
+        write_cells(text, &[Plain(Text(b" with section ")), number(section)]);
     }
 }
 
@@ -67,6 +64,35 @@ fn write_raw<W: Sink>(text: &mut TextWriter<W>, bytes: &[u8])
     for byte in bytes {
         write_cells(text, &[Plain(Text(b" ")), Plain(Hex(*byte as u64, 2))]);
     }
+}
+
+/// Adds what the auxiliary record of a section says.
+fn write_section<W: Sink>(
+    text: &mut TextWriter<W>,
+    length: u32,
+    relocations: u16,
+    line_numbers: u16,
+    checksum: u32,
+    section: u32,
+    selection: u8,
+)
+    requires { IsReady W.failures text.old }
+    ensures { AddsSome W.taken W.failures text.old text.new }
+{
+    write_cells(
+        text,
+        &[
+            Plain(Text(b"section of 0x")),
+            Plain(Hex(length as u64, 1)),
+            Plain(Text(b" bytes, relocations ")),
+            number(relocations as u32),
+            Plain(Text(b", line numbers ")),
+            number(line_numbers as u32),
+            Plain(Text(b", checksum 0x")),
+            Plain(Hex(checksum as u64, 8)),
+        ],
+    );
+    write_selection(text, selection, section);
 }
 
 /// Adds what an auxiliary record says.
@@ -120,38 +146,81 @@ fn write_record<W: Sink>(text: &mut TextWriter<W>, record: &Aux)
             checksum,
             number: section,
             selection,
-        } => {
-            write_cells(
-                text,
-                &[
-                    Plain(Text(b"section of 0x")),
-                    Plain(Hex(*length as u64, 1)),
-                    Plain(Text(b" bytes, relocations ")),
-                    number(*relocations as u32),
-                    Plain(Text(b", line numbers ")),
-                    number(*line_numbers as u32),
-                    Plain(Text(b", checksum 0x")),
-                    Plain(Hex(*checksum as u64, 8)),
-                ],
-            );
-            write_selection(text, *selection, *section);
-        }
+        } => write_section(
+            text,
+            *length,
+            *relocations,
+            *line_numbers,
+            *checksum,
+            *section as u32,
+            *selection,
+        ),
         Aux::Raw { bytes } => write_raw(text, bytes),
     }
 }
 
+/// Adds what an auxiliary record of an object of either form says.
+fn write_either_record<W: Sink>(text: &mut TextWriter<W>, record: &BigAux)
+    requires { IsReady W.failures text.old }
+    ensures { AddsSome W.taken W.failures text.old text.new }
+{
+    match record {
+        BigAux::Section {
+            length,
+            relocations,
+            line_numbers,
+            checksum,
+            number: section,
+            selection,
+        } => write_section(
+            text,
+            *length,
+            *relocations,
+            *line_numbers,
+            *checksum,
+            *section,
+            *selection,
+        ),
+        BigAux::Other(record) => write_record(text, record),
+    }
+}
+
 /// Adds the row of an auxiliary record: its index, and what it says.
-fn write_row<W: Sink>(text: &mut TextWriter<W>, width: usize, index: u64, record: &Aux)
+fn write_row<W: Sink>(text: &mut TextWriter<W>, width: usize, index: u64, record: &BigAux)
     requires { IsReady W.failures text.old }
     ensures { AddsSome W.taken W.failures text.old text.new }
 {
     write_cells(text, &[Cell::Right(index, width), Plain(Text(b"    "))]);
-    write_record(text, record);
+    write_either_record(text, record);
     text.text(b"\n");
 }
 
-/// Adds a row for each auxiliary record of a symbol, with the index of the record. `width` is that of the column of indices, and
-/// `index` the one of the symbol's own record.
+/// The index of auxiliary record `k` of the symbol whose own record has this index.
+fn index_of(index: u32, k: usize) -> u64 {
+    (index as u64).saturating_add(k as u64).saturating_add(1)
+}
+
+/// Adds a row for each auxiliary record of a symbol of an object, with the index of the record. `width` is that of the column of
+/// indices, and `index` the one of the symbol's own record.
+pub(crate) fn write_object_records<'a, W: Sink>(
+    text: &mut TextWriter<W>,
+    width: usize,
+    index: u32,
+    object: &EitherObject<'a>,
+    symbol: &BigSymbol<'a>,
+)
+    requires { IsReady W.failures text.old }
+    ensures { AddsSome W.taken W.failures text.old text.new }
+{
+    for k in 0..object.aux_count(symbol) {
+        let Some(record) = object.aux_record(symbol, k) else {
+            return;
+        };
+        write_row(text, width, index_of(index, k), &record);
+    }
+}
+
+/// Adds a row for each auxiliary record of a symbol of an image, as [`write_object_records`] does.
 pub(crate) fn write_records<W: Sink>(
     text: &mut TextWriter<W>,
     width: usize,
@@ -165,7 +234,6 @@ pub(crate) fn write_records<W: Sink>(
         let Some(record) = symbol.aux_record(k) else {
             return;
         };
-        let place = (index as u64).saturating_add(k as u64).saturating_add(1);
-        write_row(text, width, place, &record);
+        write_row(text, width, index_of(index, k), &BigAux::Other(record));
     }
 }

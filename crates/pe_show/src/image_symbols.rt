@@ -5,7 +5,7 @@ ghost use Rattle.pe_page.specs.Page.{AddsSome};
 
 use crate::auxiliary::write_records;
 use crate::symbols::{Widths, number_of, section_words, write_symbol};
-use coff_read::{ImageSymbols, SymbolSection, storage_class_name};
+use coff_read::{BigSection, ImageSymbols, WideSymbol, storage_class_name};
 use pe_head::Headers;
 use pe_page::{SectionNames, decimal_width, write_heading};
 use pe_reach::ViewFile;
@@ -13,9 +13,9 @@ use pe_text::{ShowOptions, Sink, TextWriter};
 use std::alloc::Allocator;
 
 /// The name of a symbol's section, or a word for symbols outside sections.
-fn section_name<'a>(names: &SectionNames<'a>, section: SymbolSection) -> &'a [u8] {
+fn section_name<'a>(names: &SectionNames<'a>, section: BigSection) -> &'a [u8] {
     match number_of(section) {
-        Some(number) => names.get(usize::from(number).saturating_sub(1)),
+        Some(number) => names.get((number as usize).saturating_sub(1)),
         None => section_words(&[], section),
     }
 }
@@ -48,15 +48,16 @@ fn write_rows<A: Allocator + Copy, W: Sink>(
     ensures { AddsSome W.taken W.failures text.old text.new }
 {
     for (index, symbol) in symbols {
-        let section = section_name(names, symbol.section);
+        let wide = symbol.wide();
+        let section = section_name(names, wide.section);
         write_symbol(
             text,
             widths,
             index,
-            number_of(symbol.section),
+            number_of(wide.section),
             section,
-            storage_class_name(symbol.class),
-            &symbol,
+            storage_class_name(wide.class),
+            &wide,
         );
         write_records(text, widths.index, index, &symbol);
     }

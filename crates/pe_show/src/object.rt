@@ -1,7 +1,8 @@
 //! The page of a COFF object.
 
 ghost use Rattle.std.specs.Prelude.{◌≡◌, ◌<◌, length, IfOk, OnErr};
-ghost use Rattle.coff_read.specs.ObjectFaults.{object_tests};
+ghost use Rattle.coff_read.specs.EitherObject.{form_in};
+ghost use Rattle.coff_read.specs.FormFaults.{object_tests};
 ghost use Rattle.pe_text.specs.TextWriter.{IsReady};
 ghost use Rattle.pe_page.specs.Page.{AddsSome};
 ghost use Rattle.pe_text.specs.Outcome.{IsOutcomeOf};
@@ -10,7 +11,7 @@ use crate::fault::write_refusal;
 use crate::header_rows::{named, write_flag_row, write_stamp};
 use crate::object_sections::{write_relocations, write_sections};
 use crate::symbols::write_symbols;
-use coff_read::{FileSection, ObjectFile};
+use coff_read::{EitherObject, FileSection};
 use pe_head::{FlagKind, machine_name};
 use pe_page::Cell::{self, Plain};
 use pe_page::{Page, SymbolNames, read_sections, write_cells, write_title};
@@ -20,7 +21,7 @@ use pe_text::{Outcome, Sink, TextWriter};
 use std::alloc::{AllocError, Allocator};
 
 /// Adds the rows of an object's header.
-fn write_header<W: Sink>(text: &mut TextWriter<W>, page: &Page, object: &ObjectFile)
+fn write_header<W: Sink>(text: &mut TextWriter<W>, page: &Page, object: &EitherObject)
     requires { IsReady W.failures text.old }
     ensures { AddsSome W.taken W.failures text.old text.new }
 {
@@ -42,12 +43,21 @@ fn write_header<W: Sink>(text: &mut TextWriter<W>, page: &Page, object: &ObjectF
     );
 }
 
+/// What an object is, before the machine that it is for.
+fn kind_words(object: &EitherObject) -> &'static [u8] {
+    if object.is_big() {
+        b"/bigobj object for "
+    } else {
+        b"COFF object for "
+    }
+}
+
 /// Adds the page of an accepted object.
 fn write_object<A: Allocator + Copy, W: Sink>(
     alloc: A,
     text: &mut TextWriter<W>,
     page: &Page,
-    object: &ObjectFile,
+    object: &EitherObject,
     sections: &[FileSection],
     names: &SymbolNames<A>,
     len: u64,
@@ -57,7 +67,7 @@ fn write_object<A: Allocator + Copy, W: Sink>(
 {
     let machine = object.machine();
     let [name, number] = named(machine_name(machine), machine);
-    let kind = [Text(b"COFF object for "), name, number, Text(b", ")];
+    let kind = [Text(kind_words(object)), name, number, Text(b", ")];
     write_title(text, page, Outcome::Done, kind, len);
     write_header(text, page, object);
     write_sections(text, page, sections);
@@ -89,14 +99,14 @@ pub(crate) fn show_object<A: Allocator + Copy, W: Sink>(
     file: &[u8],
 ) -> Result<Outcome, AllocError>
     requires { IsReady W.failures text.old }
-    ensures judged { IfOk result (IsOutcomeOf (object_tests file.now)) }
+    ensures judged { IfOk result (IsOutcomeOf (object_tests (form_in file.now) file.now)) }
     ensures adds { IfOk result (λ _. AddsSome W.taken W.failures text.old text.new) }
     ensures same { text.new.writer.ghost_name ≡ text.old.writer.ghost_name }
     ensures adds_none { OnErr result (text.new ≡ text.old) }
     ensures reads { OnErr result (0 < length file.now) }
 {
     let len = file.len() as u64;
-    match ObjectFile::new(file) {
+    match EitherObject::new(file) {
         Ok(object) => {
             let sections = read_sections(alloc, &object)?;
             let names = SymbolNames::new(alloc, &object, page.options.relocations)?;

@@ -7,7 +7,7 @@ ghost use Rattle.pe_show.specs.Places.{field_offset};
 ghost use Rattle.pe_show.specs.Rows.{file_text, type_text, symbol_text, relocation_row};
 
 use crate::sections::content;
-use coff_read::{FileSection, ObjectFile, RawData, Relocation, relocation_type_name};
+use coff_read::{EitherObject, FileSection, RawData, Relocation, relocation_type_name};
 use pe_head::FlagKind;
 use pe_page::Cell::{self, Plain};
 use pe_page::{
@@ -182,7 +182,7 @@ fn write_relocation<W: Sink>(
 }
 
 /// The file offset of the raw data of a section, by its index.
-fn pointer_of(object: &ObjectFile, index: usize) -> u32 {
+fn pointer_of(object: &EitherObject, index: usize) -> u32 {
     match object.section_header(index) {
         Some(header) => header.pointer_to_raw_data,
         None => 0,
@@ -192,7 +192,7 @@ fn pointer_of(object: &ObjectFile, index: usize) -> u32 {
 /// Adds the relocations of a section, if it has some, under its number and its name.
 fn write_section_relocations<A: Allocator + Copy, W: Sink>(
     text: &mut TextWriter<W>,
-    object: &ObjectFile,
+    object: &EitherObject,
     names: &SymbolNames<A>,
     place: usize,
     section: &FileSection,
@@ -241,7 +241,7 @@ fn relocation_count(sections: &[FileSection]) -> usize {
 pub(crate) fn write_relocations<A: Allocator + Copy, W: Sink>(
     text: &mut TextWriter<W>,
     options: &ShowOptions,
-    object: &ObjectFile,
+    object: &EitherObject,
     sections: &[FileSection],
     names: &SymbolNames<A>,
 )

@@ -7,8 +7,8 @@ ghost use Rattle.pe_text.specs.TextWriter.{IsReady, Adds};
 ghost use Rattle.pe_page.specs.Page.{AddsSome};
 ghost use Rattle.pe_show.specs.Rows.{class_text, function_text, number_text, symbol_row};
 
-use crate::auxiliary::write_records;
-use coff_read::{FileSection, ObjectFile, Symbol, SymbolSection, storage_class_name};
+use crate::auxiliary::write_object_records;
+use coff_read::{BigSection, BigSymbol, EitherObject, FileSection, storage_class_name};
 use pe_page::{
     SymbolNames, blanks, decimal_width, write_column, write_heading, write_name, write_right,
 };
@@ -16,14 +16,12 @@ use pe_text::{ShowOptions, Sink, TextWriter};
 use std::alloc::{AllocError, Allocator};
 
 /// The name of a symbol's section, or a word for symbols outside sections.
-pub(crate) fn section_words<'a>(sections: &[FileSection<'a>], section: SymbolSection) -> &'a [u8] {
+pub(crate) fn section_words<'a>(sections: &[FileSection<'a>], section: BigSection) -> &'a [u8] {
     match section {
-        SymbolSection::Undefined => b"UNDEFINED",
-        SymbolSection::Absolute => b"ABSOLUTE",
-        SymbolSection::Debug => b"DEBUG",
-        SymbolSection::Section(number) => match sections.get(usize::from(number).saturating_sub(
-            1,
-        )) {
+        BigSection::Undefined => b"UNDEFINED",
+        BigSection::Absolute => b"ABSOLUTE",
+        BigSection::Debug => b"DEBUG",
+        BigSection::Section(number) => match sections.get((number as usize).saturating_sub(1)) {
             Some(section) => section.name,
             None => b"",
         },
@@ -31,15 +29,15 @@ pub(crate) fn section_words<'a>(sections: &[FileSection<'a>], section: SymbolSec
 }
 
 /// The number of a symbol's section, if it has one.
-pub(crate) fn number_of(section: SymbolSection) -> Option<u16> {
+pub(crate) fn number_of(section: BigSection) -> Option<u32> {
     match section {
-        SymbolSection::Section(number) => Some(number),
+        BigSection::Section(number) => Some(number),
         _ => None,
     }
 }
 
 /// Adds the number of a section in a column of its own, or blanks.
-fn write_number<W: Sink>(text: &mut TextWriter<W>, number: Option<u16>, width: usize)
+fn write_number<W: Sink>(text: &mut TextWriter<W>, number: Option<u32>, width: usize)
     requires { IsReady W.failures text.old }
     ensures { Adds W.taken W.failures text.old text.new (number_text number width) }
 {
@@ -86,10 +84,10 @@ pub(crate) fn write_symbol<W: Sink>(
     text: &mut TextWriter<W>,
     widths: Widths,
     index: u32,
-    number: Option<u16>,
+    number: Option<u32>,
     section: &[u8],
     class: Option<&str>,
-    symbol: &Symbol,
+    symbol: &BigSymbol,
 )
     requires { IsReady W.failures text.old }
     ensures { Adds W.taken W.failures text.old text.new (symbol_row index widths.index symbol.now.value number widths.number section.now (option_map (λ name. name.now) class.entry) symbol.now.class symbol.now.kind symbol.now.name.now) }
@@ -108,10 +106,18 @@ pub(crate) fn write_symbol<W: Sink>(
     text.text(b"\n");
 }
 
+/// The number of records in an object's symbol table, as its header has it.
+fn record_count(object: &EitherObject) -> u64 {
+    match object {
+        EitherObject::Plain(object) => object.header().number_of_symbols as u64,
+        EitherObject::Big(object) => object.header().number_of_symbols as u64,
+    }
+}
+
 /// The widths of the columns of an object's symbols.
-fn widths_of(object: &ObjectFile, sections: &[FileSection]) -> Widths {
+fn widths_of(object: &EitherObject, sections: &[FileSection]) -> Widths {
     Widths {
-        index: decimal_width(object.header().number_of_symbols as u64).max(4),
+        index: decimal_width(record_count(object)).max(4),
         number: decimal_width(sections.len() as u64),
     }
 }
@@ -122,7 +128,7 @@ pub(crate) fn write_symbols<A: Allocator + Copy, W: Sink>(
     alloc: A,
     text: &mut TextWriter<W>,
     options: &ShowOptions,
-    object: &ObjectFile,
+    object: &EitherObject,
     sections: &[FileSection],
 )
     requires { IsReady W.failures text.old }
@@ -144,6 +150,6 @@ pub(crate) fn write_symbols<A: Allocator + Copy, W: Sink>(
             storage_class_name(symbol.class),
             &symbol,
         );
-        write_records(text, widths.index, index, &symbol);
+        write_object_records(text, widths.index, index, object, &symbol);
     }
 }

@@ -5,11 +5,11 @@ use Rattle.std.proofs.lemmas.Simd.{map-map}
 use Rattle.pe_view.specs.Faults.{first_standing}
 use Rattle.pe_view.specs.declared.fault.Fault.{Fault}
 use Rattle.pe_set.specs.Bindings.{bindings_of}
+use Rattle.pe_set.specs.DelayedImports.{delayed_in, with_imports, with_delayed}
 use Rattle.pe_set.specs.Placement.{Placement, move_tests}
 use Rattle.pe_set.specs.Set as sets
 use Rattle.pe_set.specs.Set.{Entry, Module, modules_from, modules_of, at_bases, rebased}
-use Rattle.pe_set.specs.SetErrors.{set_error}
-use Rattle.pe_set.specs.declared.entry.Policy.{Policy}
+use Rattle.pe_set.specs.declared.error.MapError.{MapError}
 use Rattle.pe_space.specs.Unbound as kept
 use Rattle.pe_space.specs.Commands.{after, after_all, moved_unless}
 use Rattle.pe_space.specs.Content.{SpaceImage, Content, nth_image, placement_of}
@@ -54,14 +54,25 @@ bases_from : (n : ℕ) (es : List Entry) → map (λ (m : Module). m.base) (modu
 bases_from n [] = refl
 bases_from n (e ∷ es) = ap (λ (rest : List ℕ). e.base ∷ rest) (bases_from (n + 1) es)
 
-pub content_bases : (es : List Entry) → kept.bases_of (content_of (modules_of es)) ≡ sets.bases_of es
+pub own_places : (es : List Entry) → map (λ (m : Module). m.base) (modules_of es) ≡ sets.bases_of es
 unfolding modules_of
-content_bases es =
-    let s = modules_from 0 es in
+own_places es = bases_from 0 es
+
+-- delay-loaded imports change no place
+pub delayed_placements : (s : List Module) → map sets.placement_of (with_delayed s) ≡ map sets.placement_of s
+unfolding with_delayed
+delayed_placements s = map-map sets.placement_of (λ (m : Module). with_imports (delayed_in s m) m) s
+
+pub delayed_places : (es : List Entry) → map (λ (m : Module). m.base) (with_delayed (modules_of es)) ≡ sets.bases_of es
+unfolding with_delayed
+delayed_places es = map-map (λ (m : Module). m.base) (λ (m : Module). with_imports (delayed_in (modules_of es) m) m) (modules_of es) ∙ own_places es
+
+content_bases : (s : List Module) (es : List Entry) → map (λ (m : Module). m.base) s ≡ sets.bases_of es → kept.bases_of (content_of s) ≡ sets.bases_of es
+content_bases s es is =
     sym (map-map (λ (p : Placement). p.base) placement_of (content_of s).images)
     ∙ ap (map (λ (p : Placement). p.base)) (content_places s)
     ∙ map-map (λ (p : Placement). p.base) sets.placement_of s
-    ∙ bases_from 0 es
+    ∙ is
 
 -- ---- a move changes one base
 own_images : (images : List SpaceImage) → kept.images_at (map (λ (m : SpaceImage). m.base) images) images ≡ images
@@ -76,51 +87,57 @@ one_base (m ∷ images) (suc i) base = ap (λ (rest : List SpaceImage). m ∷ re
 moved_is : (c : Content) (i base : ℕ) → moved c i base ≡ kept.set_at (slice_set (kept.bases_of c) i base) c
 moved_is c i base = ap (λ (images : List SpaceImage). record c { images = images }) (one_base c.images i base)
 
--- an accepted set of the same files whose space has this content
-pub record Serves (policy : Policy) (es : List Entry) (c : Content) : Type 0 where
-  pub now : List Entry
-  pub same : AreSame es now
-  pub accepted : set_error policy now ≡ None
-  pub content : c ≡ content_of (modules_of now)
+-- the images of entries, and the error by which these are refused
+module _ (of : List Entry → List Module) (error : List Entry → Option MapError) where
+  -- an accepted set of the same files whose space has this content
+  pub record Serves (es : List Entry) (c : Content) : Type 0 where
+    pub now : List Entry
+    pub same : AreSame es now
+    pub accepted : error now ≡ None
+    pub content : c ≡ content_of (of now)
 
-module _ (policy : Policy)
-    (moves : (es : List Entry) (i base : ℕ) → set_error policy es ≡ None → first_standing (move_tests (map sets.placement_of (modules_of es)) i base) ≡ None
-    → set_error policy (at_bases (slice_set (sets.bases_of es) i base) es) ≡ None)
-    (images : (bases : List ℕ) (es : List Entry) → modules_of (at_bases bases es) ≡ rebased bases (modules_of es))
-    (bindings : (bases : List ℕ) (es : List Entry) → bindings_of (modules_of (at_bases bases es)) ≡ bindings_of (modules_of es)) where
-  move_serves : (es : List Entry) (i base : ℕ) (o : Option Fault) → set_error policy es ≡ None → move_fault (content_of (modules_of es)) i base ≡ o
-      → Serves policy es (moved_unless (content_of (modules_of es)) i base o)
-  move_serves es i base None none fault =
-      let c = content_of (modules_of es) in
-      let bases = slice_set (sets.bases_of es) i base in
-      let asked = ap (λ (ps : List Placement). first_standing (move_tests ps i base)) (sym (content_places (modules_of es))) ∙ fault in
-      record {
-        now = at_bases bases es;
-        same = put_twice bases [] es;
-        accepted = moves es i base none asked;
-        content = moved_is c i base ∙ ap (λ (bs : List ℕ). kept.set_at (slice_set bs i base) c) (content_bases es)
-            ∙ content_at bases (modules_of es) (modules_of (at_bases bases es)) (images bases es) (bindings bases es);
-      }
-  move_serves es i base (Some y) none fault = record { now = es; same = own_bases es; accepted = none; content = refl }
+  module _
+      (places : (es : List Entry) → map (λ (m : Module). m.base) (of es) ≡ sets.bases_of es)
+      (moves : (es : List Entry) (i base : ℕ) → error es ≡ None → first_standing (move_tests (map sets.placement_of (of es)) i base) ≡ None
+      → error (at_bases (slice_set (sets.bases_of es) i base) es) ≡ None)
+      (images : (bases : List ℕ) (es : List Entry) → of (at_bases bases es) ≡ rebased bases (of es))
+      (bindings : (bases : List ℕ) (es : List Entry) → bindings_of (of (at_bases bases es)) ≡ bindings_of (of es)) where
+    move_serves : (es : List Entry) (i base : ℕ) (o : Option Fault) → error es ≡ None → move_fault (content_of (of es)) i base ≡ o
+        → Serves es (moved_unless (content_of (of es)) i base o)
+    move_serves es i base None none fault =
+        let c = content_of (of es) in
+        let bases = slice_set (sets.bases_of es) i base in
+        let asked = ap (λ (ps : List Placement). first_standing (move_tests ps i base)) (sym (content_places (of es))) ∙ fault in
+        record {
+          now = at_bases bases es;
+          same = put_twice bases [] es;
+          accepted = moves es i base none asked;
+          content = moved_is c i base ∙ ap (λ (bs : List ℕ). kept.set_at (slice_set bs i base) c) (content_bases (of es) es (places es))
+              ∙ content_at bases (of es) (of (at_bases bases es)) (images bases es) (bindings bases es);
+        }
+    move_serves es i base (Some y) none fault = record { now = es; same = own_bases es; accepted = none; content = refl }
 
-  serves : (es : List Entry) (command : Command) → set_error policy es ≡ None → Serves policy es (after command (content_of (modules_of es)))
-  serves es (Byte address) none = record { now = es; same = own_bases es; accepted = none; content = refl }
-  serves es (Window address count) none = record { now = es; same = own_bases es; accepted = none; content = refl }
-  serves es (Move i base) none = move_serves es i base (move_fault (content_of (modules_of es)) i base) none refl
-  serves es (Base i) none = record { now = es; same = own_bases es; accepted = none; content = refl }
+    serves : (es : List Entry) (command : Command) → error es ≡ None → Serves es (after command (content_of (of es)))
+    serves es (Byte address) none = record { now = es; same = own_bases es; accepted = none; content = refl }
+    serves es (Window address count) none = record { now = es; same = own_bases es; accepted = none; content = refl }
+    serves es (Move i base) none = move_serves es i base (move_fault (content_of (of es)) i base) none refl
+    serves es (Base i) none = record { now = es; same = own_bases es; accepted = none; content = refl }
 
-  pub all_serve : (es : List Entry) (commands : List Command) → set_error policy es ≡ None → Serves policy es (after_all commands (content_of (modules_of es)))
-  all_serve es [] none = record { now = es; same = own_bases es; accepted = none; content = refl }
-  all_serve es (command ∷ commands) none =
-      let one = serves es command none in
-      let rest = all_serve one.now commands one.accepted in
-      record {
-        now = rest.now;
-        same = same_later es one.now rest.now one.same rest.same;
-        accepted = rest.accepted;
-        content = ap (after_all commands) one.content ∙ rest.content;
-      }
+    pub all_serve : (es : List Entry) (commands : List Command) → error es ≡ None → Serves es (after_all commands (content_of (of es)))
+    all_serve es [] none = record { now = es; same = own_bases es; accepted = none; content = refl }
+    all_serve es (command ∷ commands) none =
+        let one = serves es command none in
+        let rest = all_serve one.now commands one.accepted in
+        record {
+          now = rest.now;
+          same = same_later es one.now rest.now one.same rest.same;
+          accepted = rest.accepted;
+          content = ap (after_all commands) one.content ∙ rest.content;
+        }
 
--- the files at the bases of the content are these
-pub served_now : (policy : Policy) (es : List Entry) (c : Content) (served : Serves policy es c) → at_bases (kept.bases_of c) es ≡ served.now
-served_now policy es c served = ap (λ (x : Content). at_bases (kept.bases_of x) es) served.content ∙ ap (λ (bs : List ℕ). at_bases bs es) (content_bases served.now) ∙ served.same
+    -- the files at the bases of the content are these
+    pub served_now : (es : List Entry) (c : Content) (served : Serves es c) → at_bases (kept.bases_of c) es ≡ served.now
+    served_now es c served =
+        ap (λ (x : Content). at_bases (kept.bases_of x) es) served.content
+        ∙ ap (λ (bs : List ℕ). at_bases bs es) (content_bases (of served.now) served.now (places served.now))
+        ∙ served.same

@@ -2,6 +2,7 @@
 use Rattle.std.proofs.Common.{◌≡◌, ◌∙◌, ◌≤◌, ◌++◌, [], ◌∷◌, ℕ, List, map, length, ap, sym, refl, append_assoc, append-nil, arith, length-append}
 use Rattle.std.proofs.lemmas.List.{length-map}
 use Rattle.pe_set.specs.Bindings.{bindings_of}
+use Rattle.pe_set.specs.DelayedImports.{delayed_in, with_imports, with_delayed}
 use Rattle.pe_set.specs.Set.{Module, modules_of}
 use Rattle.pe_set.specs.SetView.{entry_view, entries_of, module_view, modules_view}
 use Rattle.pe_set.specs.Sound.{IsSound}
@@ -31,16 +32,26 @@ few_entries set sound =
 pub count_modules : {A : Type 0} (set : List SetEntry) (ms : List (code_module.Module A)) → modules_view ms ≡ modules_of (entries_of set) → length ms ≡ length set
 count_modules set ms is = sym (length-map ms module_view) ∙ ap length is ∙ modules_count (entries_of set) ∙ length-map set entry_view
 
--- an empty set has no image and no bound slot
-pub no_images : {Y : Type 0} (make : Module → Y) (set : List SetEntry) → length set ≡ 0 → length (map make (modules_of (entries_of set))) ≡ 0
-unfolding modules_of
-no_images make [] none = refl
-no_images make (e ∷ set) none = absurd (omega (arith, none))
+-- with its delay-loaded imports as many
+pub count_delayed : (s : List Module) → length (with_delayed s) ≡ length s
+unfolding with_delayed
+count_delayed s = length-map s (λ (m : Module). with_imports (delayed_in s m) m)
 
-pub no_bindings : (set : List SetEntry) → length set ≡ 0 → length (bindings_of (modules_of (entries_of set))) ≡ 0
-unfolding bindings_of modules_of
+pub few_delayed : (set : List SetEntry) → IsSound (with_delayed (modules_of (entries_of set))) → length set ≤ 256
+few_delayed set sound =
+    let few = sound.few in
+    let delayed = count_delayed (modules_of (entries_of set)) in
+    let count = modules_count (entries_of set) ∙ length-map set entry_view in
+    omega (arith, few, delayed, count)
+
+pub count_delayed_modules : {A : Type 0} (set : List SetEntry) (ms : List (code_module.Module A)) → modules_view ms ≡ with_delayed (modules_of (entries_of set)) → length ms ≡ length set
+count_delayed_modules set ms is = sym (length-map ms module_view) ∙ ap length is ∙ count_delayed (modules_of (entries_of set)) ∙ modules_count (entries_of set) ∙ length-map set entry_view
+
+-- no images have no bound slot
+pub no_bindings : (s : List Module) → length s ≡ 0 → length (bindings_of s) ≡ 0
+unfolding bindings_of
 no_bindings [] none = refl
-no_bindings (e ∷ set) none = absurd (omega (arith, none))
+no_bindings (m ∷ s) none = absurd (omega (arith, none))
 
 -- ---- images that are made one by one, each by `make`
 module _ {A Y : Type 0} (make : Module → Y) where
@@ -63,9 +74,9 @@ module _ {A Y : Type 0} (make : Module → Y) where
   all_made made left n s so_far count none = sym (append-nil made) ∙ ap (made_and_left made) (sym (none_left left (count ∙ none))) ∙ so_far
 
   -- no image is left of an empty set
-  pub none_to_make : (set : List SetEntry) (made : List Y) (left : List (code_module.Module A)) → made_and_left made left ≡ map make (modules_of (entries_of set)) → length set ≡ 0 → length left ≡ 0
-  none_to_make set made left so_far none =
-      let whole = ap length so_far ∙ length-map (modules_of (entries_of set)) make ∙ modules_count (entries_of set) ∙ length-map set entry_view in
+  pub none_to_make : (s : List Module) (made : List Y) (left : List (code_module.Module A)) → made_and_left made left ≡ map make s → length s ≡ 0 → length left ≡ 0
+  none_to_make s made left so_far none =
+      let whole = ap length so_far ∙ length-map s make in
       let parts = length-append made (map make (modules_view left)) in
       let rest = length-map (modules_view left) make ∙ length-map left module_view in
       omega (arith, whole, parts, rest, none)

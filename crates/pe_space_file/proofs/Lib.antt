@@ -1,3 +1,4 @@
+mod Defined
 mod Pieces
 pub mod Placed
 mod Sizes

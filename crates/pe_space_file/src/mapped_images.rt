@@ -4,15 +4,16 @@ ghost use Rattle.std.specs.Prelude.{◌≡◌, ◌≢◌, ◌-◌, ◌^◌, ◌<
 ghost use Rattle.pe_view.specs.Faults.{first_standing};
 ghost use Rattle.pe_set.specs.SetView.{entries_of};
 ghost use Rattle.pe_set.specs.SetFaults.{names_tests};
+ghost use Rattle.pe_set.specs.DelayedErrors.{delayed_error};
 ghost use Rattle.pe_set.specs.SetErrors.{SetAnswers, set_error};
 ghost use Rattle.pe_space.specs.Content.{size_at};
-ghost use Rattle.pe_space.specs.SpaceOf.{IsSpaceOf};
+ghost use Rattle.pe_space.specs.SpaceOf.{IsDelayedSpaceOf, IsSpaceOf};
 ghost use Rattle.pe_text.specs.TextWriter.{WritesAll};
 ghost use Rattle.pe_space_file.specs.ImageBytes.{image_bytes, total_size};
 
 use crate::address_range::write_range;
 use pe_set::{MapError, Policy, SetEntry};
-use pe_space::{FileSpace, Space, open_space};
+use pe_space::{FileSpace, Space, open_space, open_space_delayed};
 use pe_text::{Failed, Sink};
 use std::alloc::Allocator;
 use std::marker::Model;
@@ -49,6 +50,22 @@ impl<'a, A: Allocator + Copy> MappedImages<'a, A> {
     {
         pe_set::laws::accepted_sets_are_sound();
         let space = open_space(alloc, set, policy)?;
+        Ok(MappedImages { space })
+    }
+
+    /// Opens the images of a set as [`MappedImages::open`] does, with their delay-loaded imports bound too, as
+    /// [`pe_space::open_space_delayed`] binds them.
+    pub fn open_delayed(
+        alloc: A,
+        set: &[SetEntry<'a>],
+        policy: Policy,
+    ) -> Result<MappedImages<'a, A>, MapError>
+        ensures exact { SetAnswers (delayed_error policy (entries_of set.now)) (IsDelayedSpaceOf policy (entries_of set.now)) result }
+        ensures no_memory { (length set.now ≡ 0) ⊎ (256 < length set.now) → result ≢ Err MapError.Memory }
+        ensures named { IsErrOf result MapError.Memory → first_standing (names_tests (entries_of set.now)) ≡ None }
+    {
+        pe_set::laws::delayed_sets_are_sound();
+        let space = open_space_delayed(alloc, set, policy)?;
         Ok(MappedImages { space })
     }
 

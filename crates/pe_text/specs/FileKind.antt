@@ -51,7 +51,7 @@ kind_of bytes =
     else (if is_text bytes then Some Text
     else object_kind bytes))))
 
--- the first bytes are those of an object
+-- the first bytes are those of an object of either form
 abbrev pub is_object : Option FileKind → Bool
 is_object None = false
 is_object (Some Image) = false
@@ -61,7 +61,19 @@ is_object (Some ThinArchive) = false
 is_object (Some Text) = false
 is_object (Some Object) = true
 is_object (Some ImportObject) = false
-is_object (Some BigObject) = false
+is_object (Some BigObject) = true
+
+-- the first bytes are those of a plain object
+abbrev pub is_plain_object : Option FileKind → Bool
+is_plain_object None = false
+is_plain_object (Some Image) = false
+is_plain_object (Some Elf) = false
+is_plain_object (Some Archive) = false
+is_plain_object (Some ThinArchive) = false
+is_plain_object (Some Text) = false
+is_plain_object (Some Object) = true
+is_plain_object (Some ImportObject) = false
+is_plain_object (Some BigObject) = false
 
 -- the tests of a file: those of an object if its first bytes are those of one, otherwise those of an image
 abbrev pub tests_by_kind : List ℕ → List Test → List Test → List Test
@@ -101,12 +113,14 @@ is_image (Some Object) = false
 is_image (Some ImportObject) = false
 is_image (Some BigObject) = false
 
--- a file of this kind is tested for a fault of this number; true for a number of which no single file is
+-- a file of this kind is tested for a fault of this number; true for a number of which no single file is. By 61 and 62, which are about
+-- the header, a big object is refused where only a plain one is read.
 abbrev pub is_read : ℕ → Option FileKind → Bool
 is_read number kind =
     if nat_le 1 number && nat_le number 38 then is_image kind
-    else (if nat_le 61 number && nat_le number 72 then is_object kind
-    else true)
+    else (if number == 61 || number == 62 then is_plain_object kind
+    else (if nat_le 63 number && nat_le number 72 then is_object kind
+    else true))
 
 -- what a file refused with a fault of this number is instead, by its first 16 bytes
 abbrev pub other_kind : ℕ → List ℕ → Option FileKind

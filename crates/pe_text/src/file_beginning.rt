@@ -3,7 +3,7 @@
 
 ghost use Rattle.std.specs.Prelude.{◌≡◌, Some};
 ghost use Rattle.std.specs.List.{list_all};
-ghost use Rattle.pe_text.specs.FileKind.{is_text_byte, is_text, is_machine, begins_object, begins_import, begins_big_object, is_object, kind_of, kind_name, kind_words, object_kind, is_read, other_kind};
+ghost use Rattle.pe_text.specs.FileKind.{is_text_byte, is_text, is_machine, begins_object, begins_import, begins_big_object, is_object, is_plain_object, kind_of, kind_name, kind_words, object_kind, is_read, other_kind};
 
 use pe_head::machine;
 use pe_view::{Fault, View};
@@ -176,23 +176,33 @@ fn object_kind(first: &[u8]) -> Option<FileKind>
     }
 }
 
-/// Whether a file is checked as an object, since its first bytes are those of one. Every other file is checked as an image.
+/// Whether a file of this kind is an object, plain or big.
+fn is_object_kind(kind: Option<FileKind>) -> bool
+    ensures { result ≡ is_object kind }
+{
+    matches!(kind, Some(FileKind::Object | FileKind::BigObject))
+}
+
+/// Whether a file is checked as an object, plain or big, since its first bytes are those of one. Every other file is checked as an
+/// image.
 pub fn is_object(file: &[u8]) -> bool
     ensures { result ≡ is_object (kind_of file.now) }
 {
-    matches!(file_kind(file), Some(FileKind::Object))
+    is_object_kind(file_kind(file))
 }
 
 /// How many of its first bytes show what a refused file is.
 const KIND_BYTES: usize = 16;
 
-/// Whether a file of this kind is one that is tested for a fault of this number; true for a number of which no single file is.
+/// Whether a file of this kind is one that is tested for a fault of this number; true for a number of which no single file is. By 61
+/// and 62, which are about the header, a big object is refused where only a plain one is read.
 fn is_read(number: u16, kind: Option<FileKind>) -> bool
     ensures { result ≡ is_read number kind }
 {
     match number {
         1..=38 => matches!(kind, Some(FileKind::Image)),
-        61..=72 => matches!(kind, Some(FileKind::Object)),
+        61 | 62 => matches!(kind, Some(FileKind::Object)),
+        63..=72 => is_object_kind(kind),
         _ => true,
     }
 }

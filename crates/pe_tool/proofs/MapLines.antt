@@ -1,16 +1,11 @@
--- The report of a mapped set: the bytes of a window's lines, and the whole.
-use Rattle.std.proofs.Common.{◌≡◌, ◌∙◌, ℕ, ◌≤◌, List, ◌++◌, length, take, sym, ap, true, Result, Ok, Err, is_ok, None}
+-- The bytes of a window's lines.
+use Rattle.std.proofs.Common.{◌≡◌, ◌∙◌, ℕ, ◌≤◌, List, ◌++◌, length, take, sym, ap, true, Result, Ok, Err, is_ok}
 use Rattle.std.specs.Prelude.{Option, unwrap_or, OnOk}
 use Rattle.std.proofs.lemmas.List.{length-take-le}
 use Rattle.std.proofs.lemmas.List.FromFn.{length-map-range_with_len}
 use Rattle.std.proofs.Math.Seq.{take-append_seam}
 use Rattle.pe_space.specs.Content.{Content, byte_at, window_at}
-use Rattle.pe_set.specs.Set.{Entry, modules_of}
-use Rattle.pe_set.specs.SetErrors.{set_error}
-use Rattle.pe_set.specs.declared.entry.Policy.{Policy}
-use Rattle.pe_text.specs.declared.outcome.Outcome.{Outcome}
-use Rattle.pe_text.specs.declared.outcome.Outcome.TheVariants.{Done, Refused}
-use Rattle.pe_tool.specs.MapReport.{bytes_from, IsSpaceText, IsMapText}
+use Rattle.pe_tool.specs.MapReport.{bytes_from}
 
 from_ok : {T E : Type 0} (r : Result T E) (P : Type 0) → is_ok r ≡ true → OnOk r P → P
 from_ok (Ok x) P is p = p
@@ -27,9 +22,3 @@ bytes_read c a n room buffer after r ok le all on_ok =
     ap (λ (xs : List ℕ). take n (xs ++ after)) is
     ∙ ap (λ (m : ℕ). take m (bytes_from (byte_at c) a n ++ after)) (sym count)
     ∙ take-append_seam (bytes_from (byte_at c) a n) after
-
--- the output for a set without an error is its report
-pub told_whole : (policy : Policy) (es : List Entry) (window : Option (ℕ × ℕ)) (outcome : Outcome) (text : List ℕ) → set_error policy es ≡ None
-    → IsSpaceText (modules_of es) window outcome text → IsMapText policy es window outcome text
-told_whole policy es window Done text none told = (none, told.0, told.1)
-told_whole policy es window (Refused fault) text none told = rw none told

@@ -1,13 +1,15 @@
 -- The whole output with the imports that are bound to nothing.
-use Rattle.std.proofs.Common.{◌≡◌, ◌∙◌, ℕ, List, ◌++◌, map, Option, None, Result, Ok, Err, sym, ap, subst, append-nil}
+use Rattle.std.proofs.Common.{◌≡◌, ◌∙◌, ℕ, Bool, List, ◌++◌, map, Option, None, Result, Ok, Err, sym, ap, subst, append-nil}
 use Rattle.std.specs.Prelude.{IfOk, OnErr, flat_map}
 use Rattle.pe_tables.specs.Imports.{Import}
+use Rattle.pe_set.specs.DelayedErrors.{delayed_error}
 use Rattle.pe_set.specs.Set.{Entry, modules_of}
 use Rattle.pe_set.specs.SetErrors.{set_error}
 use Rattle.pe_set.specs.declared.entry.Policy.{Policy}
 use Rattle.pe_unbound.specs.Unbound.{unbound_of}
 use Rattle.pe_text.specs.declared.outcome.Outcome.{Outcome}
 use Rattle.pe_text.specs.declared.outcome.Outcome.TheVariants.{Done, Refused}
+use Rattle.pe_tool.specs.DelayedReport.{IsDelayedReport, IsDelayedText, IsToldIn}
 use Rattle.pe_tool.specs.MapReport.{IsMapText}
 use Rattle.pe_tool.specs.UnboundImports.{unbound_line, unbound_view, told_after, IsUnboundText}
 use Rattle.pe_tool.specs.declared.unbound_imports.UnboundImport.{UnboundImport}
@@ -26,3 +28,10 @@ if_err (Err e) P p = p
 pub exact_unless : {V E X : Type 0} (result : Result V E) (view : V → X) (told is : X) (Condition : Type 0) → told ≡ is → IfOk result (λ v. view v ≡ told) → IfOk result (λ v. Condition → view v ≡ is)
 exact_unless (Ok v) view told is Condition same exact = λ condition. exact ∙ same
 exact_unless (Err e) view told is Condition same exact = tt
+
+-- the whole output with delay-loaded imports
+pub whole_delayed : (is_unbound : Bool) (policy : Policy) (es : List Entry) (window : Option (ℕ × ℕ)) (outcome : Outcome) (report : List ℕ) (us : List UnboundImport)
+    → IsDelayedReport policy es window outcome report → (set_error policy es ≡ None → IsToldIn is_unbound es us) → (delayed_error policy es ≡ None → set_error policy es ≡ None)
+    → IsDelayedText is_unbound policy es window outcome (report ++ flat_map unbound_line (map unbound_view (told_after outcome us)))
+whole_delayed is_unbound policy es window Done report us is all none = (report, is, ap (λ (xs : List (ℕ × Import)). report ++ flat_map unbound_line xs) (all (none is.0)))
+whole_delayed is_unbound policy es window (Refused fault) report us is all none = subst (λ (text : List ℕ). IsDelayedReport policy es window (Refused fault) text) (sym (append-nil report)) is

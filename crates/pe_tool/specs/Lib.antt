@@ -7,8 +7,10 @@ pub use Rattle.pe_set.specs.SetView
 pub use Rattle.pe_space.specs.Content
 pub use Rattle.pe_space.specs.SetContent
 pub use Rattle.pe_text.specs.Engine
+pub mod DelayedReport
 pub mod MapReport
 pub mod RebasedSet
 pub mod RebaseRun
 pub mod SameSets
+pub mod SpaceReport
 pub mod UnboundImports

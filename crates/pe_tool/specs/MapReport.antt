@@ -75,11 +75,6 @@ abbrev pub window_fault : List Module → Option (ℕ × ℕ) → Option Fault
 window_fault s None = None
 window_fault s (Some w) = refusal_of (window_at (content_of s) w.0 w.1)
 
--- the output for a set without an error: its report, or fault 54
-abbrev pub IsSpaceText : List Module → Option (ℕ × ℕ) → Outcome → List ℕ → Type 0
-IsSpaceText s window Done text = (window_fault s window ≡ None) × (text ≡ map_text s window)
-IsSpaceText s window (Refused fault) text = (window_fault s window ≡ Some fault) × (text ≡ fault_line fault)
-
 -- a refusal and its line: the error of the set, or else fault 54 of the window
 abbrev pub IsRefusalText : Option MapError → Option Fault → Fault → List ℕ → Type 0
 IsRefusalText None window fault text = (window ≡ Some fault) × (text ≡ fault_line fault)
@@ -87,7 +82,11 @@ IsRefusalText (Some errors.Memory) window fault text = ⊥
 IsRefusalText (Some (errors.Fault own)) window fault text = (fault ≡ own) × (text ≡ fault_line own)
 IsRefusalText (Some (errors.Cycle own length)) window fault text = (fault ≡ own) × (text ≡ cycle_line own length)
 
+-- the output for a set with this first error, if any, and these images
+abbrev pub IsReportText : Option MapError → List Module → Option (ℕ × ℕ) → Outcome → List ℕ → Type 0
+IsReportText error s window Done text = (error ≡ None) × (window_fault s window ≡ None) × (text ≡ map_text s window)
+IsReportText error s window (Refused fault) text = IsRefusalText error (window_fault s window) fault text
+
 -- the output of `map_report`
 abbrev pub IsMapText : Policy → List Entry → Option (ℕ × ℕ) → Outcome → List ℕ → Type 0
-IsMapText policy es window Done text = (set_error policy es ≡ None) × (window_fault (modules_of es) window ≡ None) × (text ≡ map_text (modules_of es) window)
-IsMapText policy es window (Refused fault) text = IsRefusalText (set_error policy es) (window_fault (modules_of es) window) fault text
+IsMapText policy es = IsReportText (set_error policy es) (modules_of es)

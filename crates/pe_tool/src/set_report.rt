@@ -3,81 +3,18 @@
 
 ghost use Rattle.std.specs.Prelude.{◌≡◌, ◌≢◌, ◌-◌, ◌^◌, ◌<◌, ◌⊎◌, ◌↔◌, ℕ, List, None, Err, length, IfOk, OnErr, IsOk, IsErrOf};
 ghost use Rattle.pe_view.specs.Faults.{first_standing};
-ghost use Rattle.pe_set.specs.Set.{modules_of};
 ghost use Rattle.pe_set.specs.SetView.{entries_of};
 ghost use Rattle.pe_set.specs.SetFaults.{names_tests};
-ghost use Rattle.pe_set.specs.Sound.{IsSound};
-ghost use Rattle.pe_space.specs.SetContent.{content_of, defined_byte};
-ghost use Rattle.pe_space.specs.Content.{byte_at};
 ghost use Rattle.pe_text.specs.Engine.{Puts};
-ghost use Rattle.pe_text.specs.FaultLine.{cycle_line};
 ghost use Rattle.pe_text.specs.TextWriter.{IsReady, Adds};
-ghost use Rattle.pe_text.specs.declared.outcome.Outcome.{Outcome};
-ghost use Rattle.pe_tool.specs.MapReport.{map_text, window_fault, IsSpaceText, IsMapText};
+ghost use Rattle.pe_tool.specs.MapReport.{IsMapText};
 ghost use Rattle.pe_tool.specs.UnboundImports.{IsUnboundText};
 
-use crate::map_lines::{write_bindings, write_images, write_window};
+use crate::space_report::tell_opened;
 use crate::unbound_imports::{told_after, unbound_imports, write_unbound};
-use crate::window::window_fault;
-use pe_space::{MapError, Policy, SetEntry, Space, open_space};
-use pe_text::{Outcome, Sink, TextWriter, ToolError, refuse, write_cycle_line};
-use pe_view::Fault;
+use pe_space::{Policy, SetEntry, open_space};
+use pe_text::{Outcome, Sink, TextWriter, ToolError};
 use std::alloc::{AllocError, Allocator};
-
-/// Adds the report of the space of a set.
-#[tactic(auto, unfolding(crate::specs::MapReport::map_text))]
-fn write_space<S: Space, W: Sink>(
-    text: &mut TextWriter<W>,
-    space: &S,
-    set: &[SetEntry],
-    window: Option<(u64, u32)>,
-)
-    requires ready { IsReady W.failures text.old }
-    requires content { S.content space.now ≡ content_of (modules_of (entries_of set.now)) }
-    requires sound { IsSound (modules_of (entries_of set.now)) }
-    requires bytes { (a : ℕ) → byte_at (S.content space.now) a ≡ defined_byte (modules_of (entries_of set.now)) a }
-    requires window { window_fault (modules_of (entries_of set.now)) window ≡ None }
-    ensures { Adds W.taken W.failures text.old text.new (map_text (modules_of (entries_of set.now)) window) }
-{
-    write_images(text, space, set);
-    write_bindings(text, space);
-    if let Some((address, count)) = window {
-        write_window(text, space, address, count);
-    }
-    text.text(b"end\n");
-}
-
-/// Tests where the window is, and then adds the report of the space of a set, or the line of fault 54.
-fn tell_space<S: Space, W: Sink>(
-    text: &mut TextWriter<W>,
-    space: &S,
-    set: &[SetEntry],
-    window: Option<(u64, u32)>,
-) -> Outcome
-    requires ready { IsReady W.failures text.old }
-    requires content { S.content space.now ≡ content_of (modules_of (entries_of set.now)) }
-    requires sound { IsSound (modules_of (entries_of set.now)) }
-    requires bytes { (a : ℕ) → byte_at (S.content space.now) a ≡ defined_byte (modules_of (entries_of set.now)) a }
-    ensures { (added : List ℕ) × IsSpaceText (modules_of (entries_of set.now)) window result added × Adds W.taken W.failures text.old text.new added }
-{
-    if let Some((address, count)) = window
-        && let Some(fault) = window_fault(space, address, count)
-    {
-        return refuse(text, fault);
-    }
-    write_space(text, space, set, window);
-    Outcome::Done
-}
-
-/// Adds the line of a cycle of forwarders, with its length.
-fn refuse_cycle<W: Sink>(text: &mut TextWriter<W>, fault: Fault, length: u32) -> Outcome
-    requires { IsReady W.failures text.old }
-    ensures adds { Adds W.taken W.failures text.old text.new (cycle_line fault length) }
-    ensures outcome { result ≡ Outcome.Refused fault }
-{
-    write_cycle_line(text, &fault, length);
-    Outcome::Refused(fault)
-}
 
 /// Checks a set and a window, and then adds the report or a fault's line. If memory runs out, it adds nothing.
 fn write_map<A: Allocator + Copy, W: Sink>(
@@ -96,12 +33,7 @@ fn write_map<A: Allocator + Copy, W: Sink>(
 {
     pe_set::laws::accepted_sets_are_sound();
     pe_space::laws::content_serves_at_all_bases();
-    match open_space(alloc, set, policy) {
-        Ok(space) => Ok(tell_space(text, &space, set, window)),
-        Err(MapError::Fault(fault)) => Ok(refuse(text, fault)),
-        Err(MapError::Cycle { fault, length }) => Ok(refuse_cycle(text, fault, length)),
-        Err(MapError::Memory) => Err(AllocError),
-    }
+    tell_opened(text, open_space(alloc, set, policy), set, window)
 }
 
 /// Maps a set of images and writes the report: a line for each image, with its number, name, base and SizeOfImage; a line for each

@@ -25,6 +25,8 @@ pub(crate) struct FileCommand {
     has_beyond: bool,
     /// Whether it has the options for one member and for a new archive: `--extract`, `--index` and `--create`.
     has_members: bool,
+    /// Whether it has the option `--big`.
+    has_big: bool,
     /// Whether it has the option `--most`.
     has_most: bool,
 }
@@ -37,10 +39,11 @@ pub(crate) const SHOW: FileCommand = FileCommand {
     takes_several: true,
     has_beyond: false,
     has_members: false,
+    has_big: false,
     has_most: true,
 };
 
-/// The file commands that have no options but `--most`, and those for what is beyond the profile.
+/// The file commands that have no options but `--most`, `--big`, those for members, and those for what is beyond the profile.
 pub(crate) const FILE_COMMANDS: [FileCommand; 6] = [
     FileCommand {
         name: "check",
@@ -49,6 +52,7 @@ pub(crate) const FILE_COMMANDS: [FileCommand; 6] = [
         takes_several: true,
         has_beyond: false,
         has_members: false,
+        has_big: false,
         has_most: false,
     },
     FileCommand {
@@ -58,6 +62,7 @@ pub(crate) const FILE_COMMANDS: [FileCommand; 6] = [
         takes_several: false,
         has_beyond: false,
         has_members: false,
+        has_big: false,
         has_most: true,
     },
     FileCommand {
@@ -67,6 +72,7 @@ pub(crate) const FILE_COMMANDS: [FileCommand; 6] = [
         takes_several: false,
         has_beyond: false,
         has_members: false,
+        has_big: true,
         has_most: true,
     },
     FileCommand {
@@ -76,6 +82,7 @@ pub(crate) const FILE_COMMANDS: [FileCommand; 6] = [
         takes_several: true,
         has_beyond: false,
         has_members: true,
+        has_big: false,
         has_most: true,
     },
     FileCommand {
@@ -85,6 +92,7 @@ pub(crate) const FILE_COMMANDS: [FileCommand; 6] = [
         takes_several: true,
         has_beyond: true,
         has_members: false,
+        has_big: false,
         has_most: true,
     },
     FileCommand {
@@ -94,6 +102,7 @@ pub(crate) const FILE_COMMANDS: [FileCommand; 6] = [
         takes_several: true,
         has_beyond: false,
         has_members: false,
+        has_big: false,
         has_most: false,
     },
 ];
@@ -110,6 +119,9 @@ const SYMBOLS: &str = "Adds each symbol of an image too, to what --all adds";
 
 /// The help on `--no-digest`.
 const NO_DIGEST: &str = "Leaves out of this what the whole file is added up or hashed for";
+
+/// The help on `--big`.
+const BIG: &str = "Reads an object that was compiled with /bigobj too";
 
 /// The help on `--most`.
 const MOST: &str =
@@ -178,6 +190,8 @@ fn unlimited_command<'a>(alloc: Global, row: FileCommand) -> Result<Command<'a>,
         with_argument(command, flag(alloc, "no-digest", NO_DIGEST))
     } else if row.has_members {
         with_member_options(alloc, command)
+    } else if row.has_big {
+        with_argument(command, flag(alloc, "big", BIG))
     } else {
         command
     }
@@ -314,11 +328,15 @@ fn dump_job<P>(file: String, most: Option<u64>) -> Job<P> {
     }
 }
 
-/// The job of `object`: the whole output, or at most this many bytes.
-fn object_job<P>(file: String, most: Option<u64>) -> Job<P> {
+/// The job of `object`, which reads big objects too or not: the whole output, or at most this many bytes.
+fn object_job<P>(file: String, reads_big: bool, most: Option<u64>) -> Job<P> {
     match most {
-        Some(most) => Job::ObjectMost { most, file },
-        None => Job::Object { file },
+        Some(most) => Job::ObjectMost {
+            reads_big,
+            most,
+            file,
+        },
+        None => Job::Object { reads_big, file },
     }
 }
 
@@ -374,7 +392,7 @@ fn limited_job<'a, P>(
             files: files_of(alloc, found)?,
         },
         "dump" => dump_job(file_of(alloc, found, "FILE")?, most),
-        "object" => object_job(file_of(alloc, found, "FILE")?, most),
+        "object" => object_job(file_of(alloc, found, "FILE")?, found.get_flag("big"), most),
         "archive" => archive_job(alloc, found, most)?,
         _ => return Ok(None),
     };

@@ -109,10 +109,14 @@ pub enum Job<P> {
     },
     /// `object FILE`: write the content of an object.
     Object {
+        /// Whether it may be a big object (`--big`).
+        reads_big: bool,
         file: String,
     },
     /// `object --most BYTES FILE`: write at most this many bytes of it.
     ObjectMost {
+        /// Whether it may be a big object (`--big`).
+        reads_big: bool,
         most: u64,
         file: String,
     },
@@ -164,11 +168,19 @@ pub enum Job<P> {
         window: Option<(u64, u32)>,
         files: Vec<MapFile>,
     },
+    /// `map --delayed HEX=FILE...`: write the same as one of these, with delay-loaded imports bound too.
+    MapDelayed {
+        policy: P,
+        window: Option<(u64, u32)>,
+        is_unbound: bool,
+        files: Vec<MapFile>,
+    },
     /// `map --write DIR HEX=FILE...`: write one of these, and then each image as it stands in the space to a file of a folder, if the
     /// images have at most this many bytes together.
     MapWrite {
         policy: P,
         window: Option<(u64, u32)>,
+        is_delayed: bool,
         is_unbound: bool,
         most: u64,
         /// The path of the folder.

@@ -31,6 +31,10 @@ Example:
 const KNOWN: &str =
     "Leaves the slot of an import as it is in its file if the import's module is not among the files";
 
+/// The help on `--delayed`.
+const DELAYED: &str =
+    "Binds delay-loaded imports too, if all modules that they need are among the files";
+
 /// The help on `--unbound`.
 const UNBOUND: &str = "Prints the imports that are bound to nothing, one per line, after all else";
 
@@ -50,6 +54,8 @@ const FILES: &str =
 pub(crate) struct MapWords {
     /// Whether slots of imports from modules that are not among the files are left as they are in the file.
     pub is_known: bool,
+    /// Whether delay-loaded imports are bound too.
+    pub is_delayed: bool,
     /// Whether the imports that are bound to nothing are written too.
     pub is_unbound: bool,
     pub window: Option<(u64, u32)>,
@@ -93,6 +99,7 @@ fn file_arguments<'a>(alloc: Global) -> Arg<'a> {
 pub(crate) fn map_command<'a>(alloc: Global) -> Result<Command<'a>, AllocError> {
     let command = Ok(new_command(alloc, "map", ABOUT).after_help(EXAMPLE));
     let command = with_argument(command, flag(alloc, "known", KNOWN));
+    let command = with_argument(command, flag(alloc, "delayed", DELAYED));
     let command = with_argument(command, flag(alloc, "unbound", UNBOUND));
     let command = with_argument(command, window_option(alloc));
     let command = with_argument(command, count_option(alloc));
@@ -241,6 +248,7 @@ pub(crate) fn map_words<'a>(alloc: Global, found: &ArgMatches<'a>) -> Result<Map
     let files = files_of(alloc, found, folder.is_some())?;
     Ok(MapWords {
         is_known: found.get_flag("known"),
+        is_delayed: found.get_flag("delayed"),
         is_unbound: found.get_flag("unbound"),
         window,
         folder,

@@ -39,7 +39,7 @@ fn value_refusal(alloc: Global, command: Command<'_>, name: &str, bad: BadValue<
     }
 }
 
-/// The job of words of `map` that write no images.
+/// The job of words of `map` that write no images and bind no delay-loaded imports.
 fn report_job<P>(
     policy: P,
     window: Option<(u64, u32)>,
@@ -62,13 +62,37 @@ fn report_job<P>(
     }
 }
 
+/// The job of words of `map` that write no images.
+fn printing_job<P>(
+    policy: P,
+    window: Option<(u64, u32)>,
+    is_delayed: bool,
+    is_unbound: bool,
+    files: Vec<MapFile>,
+) -> Job<P>
+    ensures { result ≡ (if is_delayed then Job.MapDelayed policy window is_unbound files
+        else (if is_unbound then Job.MapUnbound policy window files else Job.Map policy window files)) }
+{
+    if is_delayed {
+        return Job::MapDelayed {
+            policy,
+            window,
+            is_unbound,
+            files,
+        };
+    }
+    report_job(policy, window, is_unbound, files)
+}
+
 /// The job of words of `map`.
 fn job_of_map<P>(words: MapWords, policy: P) -> Job<P>
     ensures { MatchOption words.folder
-        (result ≡ (if words.is_unbound then Job.MapUnbound policy words.window words.files else Job.Map policy words.window words.files))
-        (λ folder. result ≡ Job.MapWrite policy words.window words.is_unbound words.most folder words.files) }
+        (result ≡ (if words.is_delayed then Job.MapDelayed policy words.window words.is_unbound words.files
+        else (if words.is_unbound then Job.MapUnbound policy words.window words.files else Job.Map policy words.window words.files)))
+        (λ folder. result ≡ Job.MapWrite policy words.window words.is_delayed words.is_unbound words.most folder words.files) }
 {
     let MapWords {
+        is_delayed,
         is_unbound,
         window,
         folder,
@@ -80,12 +104,13 @@ fn job_of_map<P>(words: MapWords, policy: P) -> Job<P>
         Some(folder) => Job::MapWrite {
             policy,
             window,
+            is_delayed,
             is_unbound,
             most,
             folder,
             files,
         },
-        None => report_job(policy, window, is_unbound, files),
+        None => printing_job(policy, window, is_delayed, is_unbound, files),
     }
 }
 

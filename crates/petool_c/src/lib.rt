@@ -12,10 +12,12 @@
 
 // from describe/records.txt: modules
 mod archive;
+mod big_object;
 mod bound_import;
 mod certificate;
 mod debug;
 mod delay_import;
+mod either_object;
 mod export;
 mod field;
 mod finding;

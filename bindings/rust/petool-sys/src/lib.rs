@@ -144,6 +144,13 @@ pub const PETOOL_SECTION_ABSOLUTE: u16 = 0xffff;
 /// The section number of a symbol for debuggers.
 pub const PETOOL_SECTION_DEBUG: u16 = 0xfffe;
 
+/// The section number, in 32 bits, of a symbol of another object.
+pub const PETOOL_EITHER_SECTION_UNDEFINED: u32 = 0;
+/// The section number, in 32 bits, of a symbol whose value is not an address.
+pub const PETOOL_EITHER_SECTION_ABSOLUTE: u32 = 0xffff_ffff;
+/// The section number, in 32 bits, of a symbol for debuggers.
+pub const PETOOL_EITHER_SECTION_DEBUG: u32 = 0xffff_fffe;
+
 /// A member of an archive is a file, mostly a COFF object.
 pub const PETOOL_MEMBER_FILE: u32 = 0;
 /// A member of an archive is a short import object.
@@ -1007,6 +1014,65 @@ impl ObjectSymbol {
     };
 }
 
+/// The header of a big object, as the file has it, without the signatures and the class that all of them have.
+#[repr(C)]
+#[derive(Clone, Copy, Debug, Default, PartialEq, Eq, Hash)]
+pub struct BigObjectHeader {
+    /// The version of the header: 2 or more.
+    pub version: u16,
+    /// The processor that the object is for.
+    pub machine: u16,
+    /// When the object was made, in seconds since 1970, as written.
+    pub time_date_stamp: u32,
+    /// SizeOfData, as written.
+    pub size_of_data: u32,
+    /// Flags, as written.
+    pub flags: u32,
+    /// MetaDataSize, as written.
+    pub meta_data_size: u32,
+    /// MetaDataOffset, as written.
+    pub meta_data_offset: u32,
+    /// How many section headers there are.
+    pub number_of_sections: u32,
+    /// The file offset of the symbol table; 0 if there is none.
+    pub pointer_to_symbol_table: u32,
+    /// How many records the symbol table has.
+    pub number_of_symbols: u32,
+}
+
+/// A symbol of an object of either form.
+#[repr(C)]
+#[derive(Clone, Copy, Debug)]
+pub struct EitherObjectSymbol {
+    /// The name, also if it is in the string table.
+    pub name: Text,
+    /// 18 bytes for each auxiliary record of a plain object, 20 of a big one.
+    pub aux: Text,
+    /// The index of the symbol's record, to which relocations refer.
+    pub index: u32,
+    /// The value, whose meaning depends on the section and the storage class.
+    pub value: u32,
+    /// Counted from 1, or a `PETOOL_EITHER_SECTION`.
+    pub section_number: u32,
+    /// The type; 32 is a function.
+    pub kind: u16,
+    /// The storage class, as numbered in "PE Format".
+    pub class_: u8,
+}
+
+impl EitherObjectSymbol {
+    /// Its value before a call sets it.
+    pub const NONE: EitherObjectSymbol = EitherObjectSymbol {
+        name: Text::NONE,
+        aux: Text::NONE,
+        index: 0,
+        value: 0,
+        section_number: 0,
+        kind: 0,
+        class_: 0,
+    };
+}
+
 /// A member of an archive. The fields of its header that hold no number are absent.
 #[repr(C)]
 #[derive(Clone, Copy, Debug)]
@@ -1490,6 +1556,49 @@ extern "C" {
         rows: *mut ObjectSymbol,
         room: usize,
         count: *mut usize,
+        fault: *mut Fault,
+    ) -> u32;
+    pub fn petool_either_object_check(file: *const u8, len: usize, big: *mut bool, fault: *mut Fault) -> u32;
+    pub fn petool_either_object_sections(
+        file: *const u8,
+        len: usize,
+        rows: *mut ObjectSection,
+        room: usize,
+        count: *mut usize,
+        fault: *mut Fault,
+    ) -> u32;
+    pub fn petool_either_object_relocations(
+        file: *const u8,
+        len: usize,
+        section: usize,
+        rows: *mut ObjectRelocation,
+        room: usize,
+        count: *mut usize,
+        fault: *mut Fault,
+    ) -> u32;
+    pub fn petool_either_object_all_relocations(
+        file: *const u8,
+        len: usize,
+        skipped: usize,
+        rows: *mut ObjectRelocation,
+        room: usize,
+        count: *mut usize,
+        fault: *mut Fault,
+    ) -> u32;
+    pub fn petool_either_object_symbols(
+        file: *const u8,
+        len: usize,
+        rows: *mut EitherObjectSymbol,
+        room: usize,
+        count: *mut usize,
+        fault: *mut Fault,
+    ) -> u32;
+    pub fn petool_big_object_headers(
+        file: *const u8,
+        len: usize,
+        header: *mut BigObjectHeader,
+        sections: *mut SectionHeader,
+        room: usize,
         fault: *mut Fault,
     ) -> u32;
 

@@ -117,6 +117,11 @@ fn the_records_of_objects_are_laid_out_as_in_c() {
     layout!(ObjectRelocation, 12, 4, address 0, symbol 4, kind 8);
     layout!(ObjectSymbol, 48, 8, name 0, aux 16, index 32, value 36, section_number 40, kind 42,
         class_ 44);
+    layout!(BigObjectHeader, 36, 4, version 0, machine 2, time_date_stamp 4, size_of_data 8,
+        flags 12, meta_data_size 16, meta_data_offset 20, number_of_sections 24,
+        pointer_to_symbol_table 28, number_of_symbols 32);
+    layout!(EitherObjectSymbol, 48, 8, name 0, aux 16, index 32, value 36, section_number 40,
+        kind 44, class_ 46);
 }
 
 #[test]

@@ -1,8 +1,7 @@
 //! The tables of an image beyond the profile: debug data, functions, TLS, structures of fields, bound imports, and findings.
 //! No rule of theirs refuses an image.
 
-use crate::object::translated;
-use crate::rows::{rows_of, text_of, RowsCall};
+use crate::rows::{rows_of, text_of, translated, RowsCall};
 use crate::{
     ClrHeader, DebugEntry, Fault, Function, Image, Import, LoadConfiguration, OutOfMemory, Symbol, TlsDirectory,
 };

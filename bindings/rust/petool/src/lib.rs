@@ -5,7 +5,7 @@
 //! [`OpenImage`] is the same without a lock, for one thread. [`Headers`] reads headers and sections only. [`Trust`] has what a file says of
 //! itself: CheckSum, certificates, signatures, Rich header and overlay. [`judge`] returns what the imports of a set of images are bound
 //! to, and [`unbound`] which are bound to nothing; a [`Space`] maps or opens a set and moves its images, an [`Object`] is a COFF
-//! object, and an [`Archive`] an archive of such.
+//! object, an [`EitherObject`] one that may be a big object (`/bigobj`), and an [`Archive`] an archive of objects.
 //!
 //! ```
 //! use petool::{Error, Image};
@@ -30,11 +30,13 @@
 
 mod archive;
 mod beyond;
+mod either_object;
 mod fault;
 mod fields;
 mod headers;
 mod image;
 mod object;
+mod object_tables;
 mod opened;
 mod resources;
 mod rows;
@@ -45,16 +47,18 @@ mod trust;
 
 pub use archive::{write_archive, Archive, ArchiveMember, ArchiveSymbol, ImportObject, Linker, MemberKind, NewMember};
 pub use beyond::{BoundImport, Pdb, PdbSignature, Tls};
+pub use either_object::{EitherHeader, EitherObject, EitherSymbol};
 pub use fault::{name_of, Error, Fault, MoveError, Named, OutOfMemory, Place, SetError};
 pub use fields::{ClrField, ClrHeader, LoadConfiguration, LoadField};
 pub use headers::{Headers, Section};
 pub use image::Image;
-pub use object::{Object, ObjectSection, Symbol};
+pub use object::{Object, Symbol};
+pub use object_tables::ObjectSection;
 pub use opened::OpenImage;
 // from describe/records.txt: shown records
 #[doc(inline)]
 pub use petool_sys::{
-    Binding, CheckSums as CheckSum, DebugEntry, Directory, Fixup, Function, Moved, ObjectHeader,
+    BigObjectHeader, Binding, CheckSums as CheckSum, DebugEntry, Directory, Fixup, Function, Moved, ObjectHeader,
     ObjectRelocation as Relocation, OverlayRange as Overlay, RichPair, SectionHeader, TlsDirectory, VersionInfo,
 };
 // end of describe/records.txt

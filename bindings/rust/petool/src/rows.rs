@@ -63,6 +63,19 @@ pub(crate) fn rows_of<Row: Copy>(file: &[u8], blank: Row, call: RowsCall<Row>) -
     .map_err(|_| OutOfMemory)
 }
 
+/// Rows as the crate shows them, each made of one as the library filled it.
+pub(crate) fn translated<Raw, Row: Copy>(
+    rows: &[Raw],
+    blank: Row,
+    one: impl Fn(&Raw) -> Row,
+) -> Result<Vec<Row>, OutOfMemory> {
+    let mut all = room_of(blank, rows.len())?;
+    for (to, from) in all.iter_mut().zip(rows) {
+        *to = one(from);
+    }
+    Ok(all)
+}
+
 #[cfg(test)]
 mod tests {
     use super::*;

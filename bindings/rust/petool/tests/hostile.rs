@@ -2,7 +2,7 @@
 //!
 //! The program is the one that the variable PETOOL_PROGRAM names; without it this part is left out, which is printed.
 
-use petool::{judge, Entry, Error, Fault, Headers, Image, Object, Policy, Space, Trust};
+use petool::{judge, EitherObject, Entry, Error, Fault, Headers, Image, Object, Policy, Space, Trust};
 use std::env;
 use std::fs;
 use std::path::{Path, PathBuf};
@@ -176,6 +176,17 @@ fn ask(file: &[u8]) -> Option<Fault> {
             .unwrap()
             .iter()
             .all(|symbol| symbol.aux.len() % 18 == 0));
+    }
+    if let Ok(object) = EitherObject::new(file) {
+        let size = if object.is_big() { 20 } else { 18 };
+        let sections = object.sections().unwrap();
+        assert_eq!(object.section_headers().unwrap().len(), sections.len());
+        assert_eq!(object.relocations(sections.len()), Ok(None));
+        assert!(object
+            .symbols()
+            .unwrap()
+            .iter()
+            .all(|symbol| symbol.aux.len() % size == 0));
     }
     judged
 }

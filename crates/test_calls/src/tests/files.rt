@@ -1,5 +1,6 @@
 //! Tests of files that are read and written whole, of devices that fail and of calls with little memory.
 
+mod big_objects;
 mod counted;
 mod devices;
 mod engines;

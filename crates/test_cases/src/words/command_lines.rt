@@ -105,14 +105,18 @@ fn print_map_unbound<R: Print>(
     print_map(rt, policy, window, files)
 }
 
-/// Prints the job of `map --write`.
-fn print_map_write<R: Print>(
+/// Prints the job of `map` with words for what it binds and prints.
+fn print_report<R: Print>(
     rt: &R,
     policy: Policy,
     window: Option<(u64, u32)>,
+    is_delayed: bool,
     is_unbound: bool,
     files: &[MapFile],
 ) -> Option<()> {
+    if is_delayed {
+        println!(rt; "delayed").ok()?;
+    }
     if is_unbound {
         return print_map_unbound(rt, policy, window, files);
     }
@@ -175,8 +179,12 @@ fn print_job<R: Print>(rt: &R, job: &Job) -> Option<()> {
         Job::Explain { number } => println!(rt; "explain {number:?}").ok(),
         Job::Dump { file } => println!(rt; "dump {file}").ok(),
         Job::DumpMost { most, file } => println!(rt; "dump {most} of {file}").ok(),
-        Job::Object { file } => println!(rt; "object {file}").ok(),
-        Job::ObjectMost { most, file } => println!(rt; "object {most} of {file}").ok(),
+        Job::Object { reads_big, file } => println!(rt; "object {reads_big} {file}").ok(),
+        Job::ObjectMost {
+            reads_big,
+            most,
+            file,
+        } => println!(rt; "object {reads_big} {most} of {file}").ok(),
         Job::Archive { most, file } => println!(rt; "archive {most:?} of {file}").ok(),
         Job::ArchiveMember { file, name, index } => println!(rt;
             "member {index} of {name:?} of {file}"
@@ -195,16 +203,23 @@ fn print_job<R: Print>(rt: &R, job: &Job) -> Option<()> {
             window,
             files,
         } => print_map_unbound(rt, *policy, *window, files),
+        Job::MapDelayed {
+            policy,
+            window,
+            is_unbound,
+            files,
+        } => print_report(rt, *policy, *window, true, *is_unbound, files),
         Job::MapWrite {
             policy,
             window,
+            is_delayed,
             is_unbound,
             most,
             folder,
             files,
         } => {
             println!(rt; "write {folder} within {most}").ok()?;
-            print_map_write(rt, *policy, *window, *is_unbound, files)
+            print_report(rt, *policy, *window, *is_delayed, *is_unbound, files)
         }
         Job::Layout {
             most,

@@ -9,7 +9,7 @@ pub returns-in-Ok-clause-adds : goal.returns-in-Ok-clause-adds
 returns-in-Ok-clause-adds g c =
     let opened = rw c.in-Ok.is at c.new.ensures in
     let bytes = c.args.bytes.now in
-    held_told _ _ _ (ap (option_map (λ (fault : Fault). (fault, numbers_of bytes fault))) opened.0) c.write_verdict.ensures (rw opened.1 at c.write_object_members.ensures)
+    held_told _ _ _ (ap (option_map (λ (fault : Fault). (fault, numbers_of bytes fault))) opened.0) c.write_verdict.ensures (rw (opened.1.0, opened.1.1) at c.write_object_members.ensures)
 
 pub returns-in-Err-clause-adds : goal.returns-in-Err-clause-adds
 returns-in-Err-clause-adds g c =

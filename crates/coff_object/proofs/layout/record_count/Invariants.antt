@@ -1,12 +1,11 @@
 use Rattle.std.proofs.Common.{◌≡◌, ◌+◌, ◌<◌, ◌^◌, drop}
 use Rattle.std.specs.Prelude.{map}
-use Rattle.coff_read.specs.ObjectView.{symbol_view}
-use Rattle.coff_object.specs.Written.{records_of}
+use Rattle.coff_read.specs.FormRecords.{records_of}
 use Rattle.coff_object.specs.StringTableView.{counted}
 use Rattle.coff_object.proofs.layout.record_count.Given as goal
 
 abbrev pub invariant-loop-symbol : goal.invariant-loop-symbol
-invariant-loop-symbol l = record {
+invariant-loop-symbol g l = record {
   small : l.count < 2 ^ 64;
-  sum : counted (l.count + records_of (map symbol_view (drop l.symbol-index l.symbols))) ≡ counted (records_of (map symbol_view l.symbols));
+  sum : counted (l.count + records_of l.big (map g.S.WideSymbol.view (drop l.symbol-index l.symbols))) ≡ counted (records_of l.big (map g.S.WideSymbol.view l.symbols));
 }

@@ -1,27 +1,43 @@
 -- Each part of fault 85, in order.
-use Rattle.std.proofs.Common.{◌∙◌, ℕ, Bool, length, sym, ap, arith}
-use Rattle.std.specs.Prelude.{map, ◌||◌}
+use Rattle.std.proofs.Common.{◌≡◌, ◌∙◌, ℕ, Bool, true, length, sym, ap, arith, ◌+◌, ◌<◌, ◌≤◌, false}
+use Rattle.std.specs.Prelude.{◌||◌, nat_lt}
 use Rattle.std.specs.List.{list_any}
+use Rattle.std.proofs.lemmas.Bool.{or_left, or_right, lt-ltb}
 use Rattle.std.proofs.lemmas.List.{length-map}
-use Rattle.coff_read.specs.ObjectView.{object_view, section_view, symbol_view}
-use Rattle.coff_object.specs.StringTableView.{counted}
-use Rattle.coff_object.specs.WriteFaults.{is_bad_section, is_bad_symbol}
-use Rattle.coff_object.specs.Written.{records_of}
+use Rattle.coff_read.specs.Form.{is_bad_section}
+use Rattle.coff_read.specs.FormRecords.{records_of, is_bad_symbol}
+use Rattle.coff_read.specs.ObjectView.{section_view}
+use Rattle.coff_object.specs.FormWriteFaults.{is_bad_header, most_sections, is_misread}
+use Rattle.coff_object.specs.PartsView.{parts_view}
 use Rattle.coff_object.proofs.WrittenSize.{bad_object, few_records}
 use Rattle.coff_object.proofs.write.is_bad_object.Goals as goal
 
-pub returns-then-is_other_header : goal.returns-then-is_other_header
-returns-then-is_other_header g c =
-    let o = object_view c.args.object.now in
-    let count = ap (λ ss. length ss) c.as_slice-count.ensures.value ∙ sym (length-map c.args.object.now.sections.items section_view) in
-    let whole = bad_object o _ _ c.if-object-gt65535.false count c.if-count-gt65535.false (omega arith) (omega arith) c.is_other_header.ensures in
-    sym (whole ∙ ap (λ (b : Bool). b || (list_any (is_bad_section (records_of o.symbols)) o.sections || list_any (is_bad_symbol (length o.sections)) o.symbols)) c.if-is_other_header.true)
+pub returns-then-is_bad_header : goal.returns-then-is_bad_header
+returns-then-is_bad_header g c =
+    let big = c.args.object.now.big in
+    let o = parts_view g.S.WideSymbol.view c.args.object.now in
+    sym (or_left (is_bad_header big o) _ (sym c.is_bad_header.ensures ∙ c.if-is_bad_header.true))
+
+pub returns-then-is_misread : goal.returns-then-is_misread
+returns-then-is_misread g c =
+    let big = c.args.object.now.big in
+    let o = parts_view g.S.WideSymbol.view c.args.object.now in
+    let header = sym c.is_bad_header.ensures ∙ c.if-is_bad_header.false in
+    let count = sym (length-map c.args.object.now.sections.now section_view) in
+    let most = c.most_sections.ensures in
+    let few : length o.sections ≤ most_sections big = (let under = c.if-object-most_sections.false in omega (arith, under, count, most)) in
+    sym (bad_object big o header few ∙ or_left (is_misread big o) _ (sym c.is_misread.ensures ∙ c.if-is_misread.true))
 
 pub returns : goal.returns
 returns g c =
-    let o = object_view c.args.object.now in
-    let count = ap (λ ss. length ss) c.as_slice-count.ensures.value ∙ sym (length-map c.args.object.now.sections.items section_view) in
-    let whole = bad_object o _ _ c.if-object-gt65535.false count c.if-count-gt65535.false (omega arith) (omega arith) c.is_other_header.ensures in
-    let records = c.record_count.ensures ∙ ap (λ ss. counted (records_of (map symbol_view ss))) c.as_slice.ensures.value ∙ few_records o c.requires in
-    c.has_bad_part.ensures ∙ ap (λ (n : ℕ). list_any (is_bad_section n) o.sections || list_any (is_bad_symbol (length o.sections)) o.symbols) records
-    ∙ sym (whole ∙ ap (λ (b : Bool). b || (list_any (is_bad_section (records_of o.symbols)) o.sections || list_any (is_bad_symbol (length o.sections)) o.symbols)) c.if-is_other_header.false)
+    let big = c.args.object.now.big in
+    let o = parts_view g.S.WideSymbol.view c.args.object.now in
+    let header = sym c.is_bad_header.ensures ∙ c.if-is_bad_header.false in
+    let count = sym (length-map c.args.object.now.sections.now section_view) in
+    let most = c.most_sections.ensures in
+    let few : length o.sections ≤ most_sections big = (let under = c.if-object-most_sections.false in omega (arith, under, count, most)) in
+    let misread = sym c.is_misread.ensures ∙ c.if-is_misread.false in
+    let records = c.record_count-records.ensures ∙ few_records big o c.requires in
+    c.has_bad_item.ensures ∙ ap (λ (n : ℕ). list_any (is_bad_section n) o.sections || list_any (is_bad_symbol big (length c.args.object.now.sections.now)) o.symbols) records
+    ∙ ap (λ (n : ℕ). list_any (is_bad_section (records_of big o.symbols)) o.sections || list_any (is_bad_symbol big n) o.symbols) count
+    ∙ sym (bad_object big o header few ∙ ap (λ (b : Bool). b || (list_any (is_bad_section (records_of big o.symbols)) o.sections || list_any (is_bad_symbol big (length o.sections)) o.symbols)) misread)

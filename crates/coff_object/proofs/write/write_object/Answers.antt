@@ -1,63 +1,39 @@
--- The tests of the names come first, then those of the sections, then those of the whole.
-use Rattle.std.proofs.Common.{◌∙◌, ◌++◌, List, ℕ, sym, subst}
-use Rattle.std.proofs.lemmas.Result.{err_from_is_err_and}
-use Rattle.pe_view.specs.FirstStanding.{first-in, first-past, none-append}
-use Rattle.pe_view.specs.Faults.{Test}
+-- What both forms are written by, at the plain form.
+use Rattle.std.proofs.Common.{◌≡◌, ℕ, List, Some, refl, sym, subst, ◌+◌, ◌<◌, ◌≤◌, true, false, length}
+use Rattle.std.specs.Prelude.{map}
+use Rattle.std.proofs.lemmas.Result.{IfOk-weaker}
+use Rattle.pe_view.specs.Faults.{AnswersOrWants, Test, first_standing}
+use Rattle.coff_read.specs.FormFaults as form_faults
 use Rattle.coff_read.specs.ObjectFaults.{IsObjectOf}
-use Rattle.coff_read.specs.ObjectView.{object_view}
-use Rattle.coff_object.specs.WriteFaults.{each_item, is_far, has_many_relocations, name_tests, section_tests, form_tests, write_tests}
-use Rattle.coff_object.specs.Written.{strings_of}
-use Rattle.coff_object.proofs.Form.{writable}
-use Rattle.coff_object.proofs.ReadBack.{read_back}
-use Rattle.coff_object.proofs.Writable.{none_each}
+use Rattle.coff_read.specs.ObjectView.{section_view, symbol_view, object_view}
+use Rattle.coff_read.specs.Records.{Object}
+use Rattle.coff_object.specs.FormWriteFaults as form
+use Rattle.coff_object.specs.FormWritten as written
+use Rattle.coff_object.specs.WriteFaults.{name_tests, write_tests}
+use Rattle.coff_object.proofs.PlainWritten.{same_canon, same_write_tests, plain_object}
 use Rattle.coff_object.proofs.write.write_object.Goals as goal
 
-pub returns-in_err-check_names-clause-exact : goal.returns-in_err-check_names-clause-exact
-unfolding write_tests
-returns-in_err-check_names-clause-exact g c =
-    let o = object_view c.args.object.now in
-    let p = err_from_is_err_and c.from_residual.result c.from_residual.ensures.1 in
-    rw (p.1, p.2) (first-in (name_tests o) (section_tests o ++ form_tests o) _ c.in_err-check_names.ensures)
-
-pub returns-in_err-check_sections-clause-exact : goal.returns-in_err-check_sections-clause-exact
-unfolding write_tests
-returns-in_err-check_sections-clause-exact g c =
-    let o = object_view c.args.object.now in
-    let p = err_from_is_err_and c.from_residual-in_err-check_sections.result c.from_residual-in_err-check_sections.ensures.1 in
-    rw (p.1, p.2) (first-past (name_tests o) (section_tests o ++ form_tests o) c.in_ok-check_names.ensures.0 ∙ first-in (section_tests o) (form_tests o) _ c.in_err-check_sections.ensures)
-
-pub check_form-requires-clause-near : goal.check_form-requires-clause-near
-check_form-requires-clause-near g c =
-    let o = object_view c.args.object.now in
-    let far : List Test = each_item 82 (is_far (strings_of o)) 0 o.sections in
-    let parts = none-append far (each_item 83 has_many_relocations 0 o.sections) c.in_ok-check_sections.ensures.0 in
-    none_each 82 (is_far (strings_of o)) 0 o.sections parts.0
-
-pub returns-in_err-size-clause-exact : goal.returns-in_err-size-clause-exact
-unfolding write_tests
-returns-in_err-size-clause-exact g c =
-    let o = object_view c.args.object.now in
-    let p = err_from_is_err_and c.from_residual-in_err-size.result c.from_residual-in_err-size.ensures.1 in
-    rw (p.1, p.2) (first-past (name_tests o) (section_tests o ++ form_tests o) c.in_ok-check_names.ensures.0 ∙ first-past (section_tests o) (form_tests o) c.in_ok-check_sections.ensures.0 ∙ c.in_err-size.ensures)
-
-pub write_parts-requires-clause-form : goal.write_parts-requires-clause-form
-unfolding write_tests
-write_parts-requires-clause-form g c =
-    let o = object_view c.args.object.now in
-    writable o (first-past (name_tests o) (section_tests o ++ form_tests o) c.in_ok-check_names.ensures.0 ∙ first-past (section_tests o) (form_tests o) c.in_ok-check_sections.ensures.0 ∙ c.in_ok-size.ensures.0)
-
 pub returns-clause-exact : goal.returns-clause-exact
-unfolding write_tests
 returns-clause-exact g c =
-    let o = object_view c.args.object.now in (
-      first-past (name_tests o) (section_tests o ++ form_tests o) c.in_ok-check_names.ensures.0 ∙ first-past (section_tests o) (form_tests o) c.in_ok-check_sections.ensures.0 ∙ c.in_ok-size.ensures.0,
-      c.in_ok-bytes.ensures.bytes,
-    )
+    let o = object_view c.args.object.now in
+    let r = c.write_form.result in
+    let p : Object = record o { sections = map section_view c.as_slice.result.now; symbols = map symbol_view c.as_slice-2.result.now } in
+    let same : p ≡ o = rw (c.as_slice.ensures.value, c.as_slice-2.ensures.value) refl in
+    let one = subst (λ (q : Object). AnswersOrWants (form.write_tests false q) (λ bytes. bytes.items ≡ written.canon false q) r) same c.write_form.ensures.exact in
+    let two = subst (λ (tests : List Test). AnswersOrWants tests (λ bytes. bytes.items ≡ written.canon false o) r) (same_write_tests o) one in
+    subst (λ (file : List ℕ). AnswersOrWants (write_tests o) (λ bytes. bytes.items ≡ file) r) (same_canon o) two
 
 pub returns-clause-read_back : goal.returns-clause-read_back
-unfolding write_tests
 returns-clause-read_back g c =
     let o = object_view c.args.object.now in
-    let none =
-    first-past (name_tests o) (section_tests o ++ form_tests o) c.in_ok-check_names.ensures.0 ∙ first-past (section_tests o) (form_tests o) c.in_ok-check_sections.ensures.0 ∙ c.in_ok-size.ensures.0 in
-    subst (λ (bytes : List ℕ). IsObjectOf bytes o) (sym c.in_ok-bytes.ensures.bytes) (read_back o c.in_ok-bytes.ensures.fits none)
+    let p : Object = record o { sections = map section_view c.as_slice.result.now; symbols = map symbol_view c.as_slice-2.result.now } in
+    let same : p ≡ o = rw (c.as_slice.ensures.value, c.as_slice-2.ensures.value) refl in
+    IfOk-weaker c.write_form.result (λ bytes. form_faults.IsObjectOf false bytes.items p) (λ bytes. IsObjectOf bytes.items o)
+    (λ bytes held. plain_object bytes.items o (subst (λ (q : Object). form_faults.IsObjectOf false bytes.items q) same held)) c.write_form.ensures.read_back
+
+pub returns-clause-early : goal.returns-clause-early
+returns-clause-early g c =
+    let o = object_view c.args.object.now in
+    let p : Object = record o { sections = map section_view c.as_slice.result.now; symbols = map symbol_view c.as_slice-2.result.now } in
+    let same : p ≡ o = rw (c.as_slice.ensures.value, c.as_slice-2.ensures.value) refl in
+    λ fault first. c.write_form.ensures.early fault (subst (λ (q : Object). first_standing (name_tests q) ≡ Some fault) (sym same) first)

@@ -1,9 +1,12 @@
 -- The sum of the parts' sizes.
-use Rattle.std.proofs.Common.{◌∙◌, length, sym, ap, arith}
+use Rattle.std.proofs.Common.{◌∙◌, length, sym, ap, arith, ◌≡◌, ◌+◌, ◌<◌, ◌≤◌, true, false}
 use Rattle.std.specs.Prelude.{map}
 use Rattle.std.specs.List.{flat_map}
 use Rattle.std.proofs.lemmas.List.{length-map}
-use Rattle.coff_read.specs.ObjectView.{object_view, section_view, symbol_view}
+use Rattle.coff_object.specs.PartsView.{parts_view}
+use Rattle.coff_read.specs.ObjectView.{section_view}
+use Rattle.coff_read.specs.Forms.{header_len}
+use Rattle.coff_object.specs.FormWritten.{optional_of}
 use Rattle.coff_object.specs.Sizes.{symbols_size}
 use Rattle.coff_object.specs.StringTableView.{counted}
 use Rattle.coff_object.specs.Written.{section_body}
@@ -12,8 +15,10 @@ use Rattle.coff_object.proofs.write.written_size.Goals as goal
 
 pub returns : goal.returns
 returns g c =
-    let whole = canon_size (object_view c.args.object.now) c.requires.near in
-    let count = ap (λ ss. length ss) c.as_slice-sections.ensures.value ∙ sym (length-map c.args.object.now.sections.items section_view) in
-    let bodies = c.bodies_size.ensures ∙ ap (λ ss. counted (length (flat_map section_body (map section_view ss)))) c.as_slice-sections.ensures.value in
-    let symbols = c.symbols_size.ensures ∙ ap (λ ss. counted (symbols_size (map symbol_view ss))) c.as_slice.ensures.value in
-    omega (arith, whole, count, bodies, symbols)
+    let big = c.args.object.now.big in
+    let whole = canon_size big (parts_view g.S.WideSymbol.view c.args.object.now) c.requires.near in
+    let count = sym (length-map c.args.object.now.sections.now section_view) in
+    let head : c.header_size.result ≡ header_len big + length (optional_of big (parts_view g.S.WideSymbol.view c.args.object.now)) = c.header_size.ensures in
+    let bodies = c.bodies_size.ensures in
+    let symbols = c.symbols_size.ensures in
+    omega (arith, whole, count, head, bodies, symbols)

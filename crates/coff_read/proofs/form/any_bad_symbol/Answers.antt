@@ -2,12 +2,11 @@ use Rattle.std.proofs.Common.{rules, ◌∙◌}
 use borrow.Author.Tests.{tests}
 use Rattle.std.proofs.lemmas.Iterator.{YieldsList-from_slice}
 use Rattle.std.proofs.lemmas.Iterator.Search.{any_from_yields_List}
-use Rattle.coff_read.specs.ObjectView.{symbol_view}
-use Rattle.coff_read.specs.Form.{is_bad_symbol}
+use Rattle.coff_read.specs.FormRecords.{is_bad_symbol}
 use Rattle.coff_read.proofs.Mapped.{any-map}
 use Rattle.coff_read.proofs.form.any_bad_symbol.Goals as goal
 
 pub returns : goal.returns
-returns c =
-    any_from_yields_List (λ s. is_bad_symbol c.args.count (symbol_view s)) _ _ _ c.any.ensures.ran (YieldsList-from_slice c.args.symbols.now cc) (λ x b q k. search (rules, tests))
-    ∙ any-map symbol_view (is_bad_symbol c.args.count) c.args.symbols.now
+returns g c =
+    any_from_yields_List (λ s. is_bad_symbol c.args.big c.args.count (g.S.WideSymbol.view s)) _ _ _ c.any.ensures.ran (YieldsList-from_slice c.args.symbols.now cc) (λ x b q k. search (rules, tests))
+    ∙ any-map g.S.WideSymbol.view (is_bad_symbol c.args.big c.args.count) c.args.symbols.now

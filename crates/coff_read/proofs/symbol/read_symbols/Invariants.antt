@@ -4,7 +4,9 @@ use Rattle.std.specs.List.{flat_map}
 use Rattle.pe_view.specs.Faults.{first_standing}
 use Rattle.pe_view.specs.TextEnds.{AreEndsOf}
 use Rattle.pe_view.specs.View.{bytes_of}
-use Rattle.coff_read.specs.ObjectFaults.{symbol_tests}
+use Rattle.coff_read.specs.FormFaults.{symbol_tests}
+use Rattle.coff_read.specs.FormReading as form
+use Rattle.coff_read.specs.Forms.{Plain}
 use Rattle.coff_read.specs.ObjectView.{symbol_view}
 use Rattle.coff_read.specs.Reading.{symbol_at, record_start, symbols_from, symbol_indexes}
 use Rattle.coff_read.proofs.symbol.read_symbols.Given as goal
@@ -13,7 +15,7 @@ abbrev pub invariant-loop-k : goal.invariant-loop-k
 invariant-loop-k g l = record {
   within : l.k ≤ l.tables.records;
   known : AreEndsOf (bytes_of l.view) l.ends;
-  sound : first_standing (flat_map (symbol_tests (bytes_of l.view)) (symbols_from (bytes_of l.view) l.k (l.tables.records - l.k) 0)) ≡ None;
+  sound : first_standing (flat_map (symbol_tests Plain (bytes_of l.view)) (form.symbols_from Plain (bytes_of l.view) l.k (l.tables.records - l.k) 0)) ≡ None;
   read :
       map symbol_view l.symbols.items ++ map (λ k. symbol_at (bytes_of l.view) (record_start (bytes_of l.view) k)) (symbols_from (bytes_of l.view) l.k (l.tables.records - l.k) 0)
       ≡ map (λ k. symbol_at (bytes_of l.view) (record_start (bytes_of l.view) k)) (symbol_indexes (bytes_of l.view));

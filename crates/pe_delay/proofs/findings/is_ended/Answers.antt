@@ -1,5 +1,5 @@
 -- There are no more descriptors than the bytes hold.
-use Rattle.std.proofs.Common.{◌/◌, ◌-◌, List, length, not, ap, arith}
+use Rattle.std.proofs.Common.{◌/◌, List, length, not, ap, arith}
 use Rattle.std.proofs.lemmas.List.FromFn.{length-map-range_with_len}
 use Rattle.pe_layout.specs.Layout.{image_of}
 use Rattle.pe_records.specs.Records.{raw_bytes}

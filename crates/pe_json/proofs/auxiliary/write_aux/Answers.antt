@@ -6,4 +6,4 @@ use Rattle.pe_json.proofs.auxiliary.write_aux.Goals as goal
 
 pub returns : goal.returns
 unfolding member escape_byte
-returns g c = objects (number (codes "index") c.args.index) _ c.write_number.ensures c.write_fields.ensures c.text.ensures
+returns g c = objects (number (codes "index") c.args.index) _ c.write_number.ensures c.write_either_fields.ensures c.text.ensures

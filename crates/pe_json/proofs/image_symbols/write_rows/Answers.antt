@@ -1,9 +1,11 @@
 -- One symbol more.
-use Rattle.std.proofs.Common.{◌∙◌, [], true, ℕ, List, ◌++◌, map, refl, ap, sym, subst, append-nil}
+use Rattle.std.proofs.Common.{◌∙◌, [], ◌∷◌, true, ℕ, List, ◌++◌, map, refl, ap, sym, subst, append-nil}
 use Rattle.coff_read.specs.ImageSymbolsLeft.{image_symbols_left}
+use Rattle.coff_read.specs.Forms.{Plain}
 use Rattle.coff_read.specs.Records.{Symbol}
 use Rattle.pe_text.specs.TextWriter.{Adds}
 use Rattle.pe_json.specs.Listed.{items_text}
+use Rattle.pe_json.specs.ObjectLine.{symbol_row}
 use Rattle.pe_json.specs.SymbolRows.{indexed_row}
 use Rattle.pe_json.proofs.Objects.{adds_none, items_none, also_items, left-out, items_more}
 use Rattle.pe_json.proofs.RowByRow.{mapped-next, not_nil}
@@ -15,7 +17,8 @@ loop-index-init g c = ([], rw items_none (adds_none c.requires), ap (map indexed
 pub loop-index-preserved : goal.loop-index-preserved
 loop-index-preserved g c =
     let i = c.loop-index.invariant in
-    (_, also_items true i.0 _ _ i.3 i.1 c.write_next.ensures, mapped-next indexed_row _ _ _ _ _ c.in-Some.ensures.steps i.2, sym (not_nil i.0 _))
+    let shown = subst (λ (s : Symbol). Adds g.W.Sink.taken g.W.Sink.failures c.loop-index.text c.write_next.new.text (items_text c.loop-index.first (symbol_row Plain c.in-Some.index s ∷ []))) c.wide.ensures c.write_next.ensures in
+    (_, also_items true i.0 _ _ i.3 i.1 shown, mapped-next indexed_row _ _ _ _ _ c.in-Some.ensures.steps i.2, sym (not_nil i.0 _))
 
 pub returns : goal.returns
 returns g c =

@@ -4,4 +4,4 @@ use Rattle.pe_json.proofs.object.write_header.Goals as goal
 
 pub returns : goal.returns
 unfolding object
-returns g c = c.text.ensures then c.write_coff.ensures then c.text-2.ensures
+returns g c = c.text.ensures then c.write_fields.ensures then c.text-2.ensures

@@ -9,5 +9,5 @@ use Rattle.pe_json.proofs.object.write_object_members.Goals as goal
 pub returns : goal.returns
 unfolding object_members more member escape_byte
 returns g c =
-    let header = rw c.header.ensures at c.write_header.ensures in
-    c.text.ensures then (header then (c.text-2.ensures then (c.write_sections.ensures then (c.text-3.ensures then (ended c.write_symbols.ensures)))))
+    let format = rw (c.format_member.ensures, c.is_big.ensures) at c.text.ensures in
+    format then ((c.text-2.ensures then c.write_header.ensures) then ((c.text-3.ensures then c.write_sections.ensures) then ended (c.text-4.ensures then c.write_symbols.ensures)))

@@ -3,39 +3,24 @@ use Rattle.std.proofs.Common.{◌≡◌, ◌∙◌, ℕ, ◌≤◌, List, ◌++�
 use Rattle.std.proofs.lemmas.List.{take-append-drop}
 use Rattle.std.proofs.lemmas.Result.{err_from_is_err_and}
 use Rattle.pe_view.specs.Faults.{first_standing}
-use Rattle.pe_view.specs.FirstStanding.{none-append}
 use Rattle.pe_view.specs.View.{bytes_of}
-use Rattle.pe_head.specs.Accepted.{headers_inside, image_small}
 use Rattle.pe_head.specs.declared.headers.Headers.{Headers}
 use Rattle.pe_head.specs.Head.{head_of}
-use Rattle.pe_head.specs.HeaderFaults.{head_tests}
 use Rattle.pe_layout.specs.Image.{LaidOut}
 use Rattle.pe_layout.specs.Plain.{plain_bytes}
-use Rattle.pe_layout.specs.SectionFaults.{layout_tests, placing_tests}
+use Rattle.pe_layout.specs.SectionFaults.{layout_tests}
 use Rattle.pe_layout_file.specs.ImageFile.{image_bytes, image_size}
 use Rattle.pe_layout_file.specs.Pieces.{LieInOrder}
+use Rattle.pe_layout_file.proofs.LayingOut.{Laws, lies_of}
 use Rattle.pe_layout_file.proofs.engine.lay_out.Goals as goal
-
-head_none : (file : List ℕ) → first_standing (layout_tests 0 file) ≡ None → first_standing (head_tests 0 file) ≡ None
-head_none file none = (none-append (head_tests 0 file) (placing_tests 0 (head_of file) _) none).0
 
 pub write_image-requires-clause-order : goal.write_image-requires-clause-order
 write_image-requires-clause-order g c =
     let file = bytes_of c.new-file.result in
     let none = c.in-Ok.ensures.0 in
-    let head = head_none file none in
     let apart = c.sections_are_apart.ensures in
-    let lie : LieInOrder (head_of file) file = record {
-      laid_out = c.bytes_by_pieces.ensures 0 file none;
-      small = image_small 0 file head;
-      headers_held = (headers_inside 0 file head).0;
-      headers_inside = (headers_inside 0 file head).1;
-      behind = apart.behind 0 file none;
-      inside = apart.inside 0 file none;
-      apart = apart.apart 0 file none;
-      held = apart.held 0 file none;
-    } in
-    subst (λ (h : Headers). LieInOrder h file) (sym (c.headers.ensures ∙ c.in-Ok.ensures.1.headers)) lie
+    let laws : Laws = record { pieces = c.bytes_by_pieces.ensures; behind = apart.behind; inside = apart.inside; apart = apart.apart; held = apart.held } in
+    subst (λ (h : Headers). LieInOrder h file) (sym (c.headers.ensures ∙ c.in-Ok.ensures.1.headers)) (lies_of laws file none)
 
 pub returns-in_err-write_image : goal.returns-in_err-write_image
 returns-in_err-write_image g c =

@@ -13,4 +13,4 @@ unfolding content_of laid_out
 returns-clause-bindings c = λ es. refl
 
 pub returns-clause-bytes : goal.returns-clause-bytes
-returns-clause-bytes c = λ policy es a none. bytes_defined (modules_of es) a (c.accepted_sets_are_sound.ensures policy es none)
+returns-clause-bytes c = λ policy es a none. bytes_defined (modules_of es) a (c.accepted_sets_are_sound.ensures.sound policy es none)

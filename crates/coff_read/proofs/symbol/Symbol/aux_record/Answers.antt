@@ -1,5 +1,5 @@
 -- The record's eighteen bytes.
-use Rattle.std.proofs.Common.{◌≡◌, ◌∙◌, ℕ, ◌+◌, ◌-◌, ◌*◌, true, nat_lt, take, drop, Some, ap, arith}
+use Rattle.std.proofs.Common.{◌≡◌, ◌∙◌, refl, sym, ℕ, ◌+◌, ◌-◌, ◌*◌, true, nat_lt, take, drop, Some, ap, arith}
 use Rattle.std.proofs.lemmas.Bool.{lt-ltb}
 use Rattle.coff_read.specs.Auxiliary.{aux_of}
 use Rattle.coff_read.specs.ObjectView.{symbol_view}
@@ -14,4 +14,4 @@ returns c =
     let under = c.if-k-aux_count.false in
     let inside : nat_lt c.args.k (aux_records s) ≡ true = lt-ltb c.args.k (aux_records s) (omega (arith, count, under)) in
     let len : start + 18 - start ≡ 18 = omega arith in
-    rw inside (ap Some (c.aux_of.ensures ∙ ap (λ (n : ℕ). aux_of s (take n (drop start s.aux))) len))
+    rw inside (ap Some (c.aux_of.ensures s refl (sym c.defines_function-is_function.ensures) ∙ ap (λ (n : ℕ). aux_of s (take n (drop start s.aux))) len))

@@ -10,4 +10,4 @@ pub invariant_of-result : goal.invariant_of-result
 invariant_of-result g c =
     let es = entries_of c.args.set.now in
     let accepted = c.in_ok-space.ensures.exact in
-    subst ImagesApart (sym accepted.1.content) (placed_kept (modules_of es) (c.accepted_sets_are_sound.ensures c.args.policy es accepted.0))
+    subst ImagesApart (sym accepted.1.content) (placed_kept (modules_of es) (c.accepted_sets_are_sound.ensures.sound c.args.policy es accepted.0))

@@ -1,0 +1,3 @@
+pub mod HeaderRecords
+pub mod Relocations
+pub mod SymbolRows

@@ -1,0 +1,15 @@
+use Rattle.pe_set.proofs.Soundness.{images_sound}
+use Rattle.pe_set.proofs.laws.images_are_sound.Goals as goal
+
+pub returns : goal.returns
+returns c = images_sound (record {
+  images_small = c.images_are_small.ensures;
+  slots_inside = c.slots_are_apart.ensures.inside;
+  slots_apart = c.slots_are_apart.ensures.apart;
+  slots_few = c.slots_are_apart.ensures.few;
+  fields_inside = c.fields_are_apart.ensures.inside;
+  fields_apart = c.fields_are_apart.ensures.apart;
+  fields_off = c.fields_are_apart.ensures.off_slots;
+  fields_few = c.fields_are_apart.ensures.few;
+  targets = c.targets_are_inside.ensures;
+})

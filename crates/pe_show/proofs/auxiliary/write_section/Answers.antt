@@ -1,0 +1,5 @@
+use Rattle.pe_page.proofs.Adding.{◌and◌}
+use Rattle.pe_show.proofs.auxiliary.write_section.Goals as goal
+
+pub returns : goal.returns
+returns g c = c.write_cells.ensures and c.write_selection.ensures
