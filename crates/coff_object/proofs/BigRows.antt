@@ -7,7 +7,6 @@ use Rattle.pe_view.specs.declared.fault.Place.TheVariants.{Item}
 use Rattle.coff_read.specs.Field.{field}
 use Rattle.coff_read.specs.Forms.{Plain, Big}
 use Rattle.coff_read.specs.Records.{Bytes, Absent, Object}
-use Rattle.coff_read.specs.declared.relocation.Relocation.{Relocation}
 use Rattle.coff_read.specs.declared.symbol.SymbolSection.TheVariants as belongs
 use Rattle.pe_numbers.specs.Numbers.{number_bytes}
 use Rattle.coff_object.specs.FormWriteFaults.{write_tests}

@@ -7,7 +7,7 @@ use Rattle.pe_view.specs.Faults.{first_standing}
 use Rattle.coff_read.specs.Records.{Symbol, Object}
 use Rattle.coff_read.specs.Strings.{string_bytes}
 use Rattle.coff_read.specs.FormRecords.{section_number, aux_records, last_number, is_bad_number, is_bad_aux, is_bad_symbol}
-use Rattle.coff_read.specs.Forms.{Form, header_len, symbol_len, absolute_number, debug_number}
+use Rattle.coff_read.specs.Forms.{Form, symbol_len, absolute_number, debug_number}
 use Rattle.coff_read.specs.declared.symbol.SymbolSection.{SymbolSection}
 use Rattle.coff_read.specs.declared.symbol.SymbolSection.TheVariants as belongs
 use Rattle.coff_object.specs.FormWriteFaults.{write_tests}

@@ -1,5 +1,5 @@
 -- Where the parts of a written object stand.
-use Rattle.std.proofs.Common.{◌≡◌, ℕ, ◌+◌, ◌*◌, true, false, List, [], ◌∷◌, ◌++◌, length, refl, sym, ap, ◌∙◌, length-append, arith}
+use Rattle.std.proofs.Common.{◌≡◌, ℕ, ◌+◌, ◌*◌, true, false, List, [], ◌∷◌, ◌++◌, length, refl, ap, ◌∙◌, length-append, arith}
 use Rattle.std.specs.List.{flat_map, AllByRecursion}
 use Rattle.pe_numbers.specs.Numbers.{number_bytes}
 use Rattle.pe_numbers.specs.StandsAt.{StandsAt, stands_whole, stands-front, stands-back}

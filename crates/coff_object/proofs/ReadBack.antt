@@ -18,7 +18,7 @@ use Rattle.coff_object.specs.Written.{strings_of, section_table, has_strings, st
 use Rattle.coff_object.proofs.Bytes.{field_read}
 use Rattle.coff_read.specs.FormFaults.{big_class, kind_tests, size_tests, section_table_tests, header_tests, symbol_table_tests, section_tests, symbol_tests, relocation_tests, record_tests, object_tests, IsObjectOf}
 use Rattle.coff_read.specs.FormReading.{symbol_pointer, record_count, strings_start, strings_size, section_in, section_start, section_starts, symbol_at, record_start, symbols_from, symbol_indexes}
-use Rattle.coff_read.specs.FormRecords.{records_of, is_bad_symbol}
+use Rattle.coff_read.specs.FormRecords.{records_of}
 use Rattle.coff_read.specs.Forms.{Form, header_len, machine_at, time_stamp_at, records_at, section_count, optional_size, symbol_len}
 use Rattle.coff_read.specs.Forms as forms
 use Rattle.coff_object.specs.FormWritten.{symbol_bytes, optional_of, characteristics_of, bodies_start, symbols_start, symbols_pointer, header_numbers, coff_header, canon}
@@ -26,7 +26,7 @@ use Rattle.coff_object.specs.FormWriteFaults.{most_sections, is_misread, write_t
 use Rattle.coff_object.proofs.Laid.{Laid, laid, end_of_symbols}
 use Rattle.coff_object.proofs.SectionsBack.{AreSectionsFrom, sections_read}
 use Rattle.coff_object.proofs.SymbolsBack.{HasStrings, SymbolWritable, AreSymbolsFrom, symbols_read}
-use Rattle.coff_object.proofs.Writable.{Accepted, HeaderKept, accepted, header_kept, sections_writable, symbols_writable}
+use Rattle.coff_object.proofs.Writable.{Accepted, accepted, header_kept, sections_writable, symbols_writable}
 
 -- the header of a file
 record HeaderIs (big : Form) (file : List ℕ) (o : Object) : Type 0 where

@@ -1,12 +1,11 @@
 -- Written relocations, read back.
-use Rattle.std.proofs.Common.{◌≡◌, ℕ, ◌+◌, ◌*◌, false, List, [], ◌∷◌, length, Some, None, refl, ap, ◌∙◌, arith}
-use Rattle.std.specs.Prelude.{map, nat_le}
-use Rattle.std.specs.List.{flat_map, range_with_len, list_any, AllByRecursion}
+use Rattle.std.proofs.Common.{◌≡◌, ℕ, ◌+◌, ◌*◌, List, [], ◌∷◌, length, Some, refl, arith}
+use Rattle.std.specs.Prelude.{map}
+use Rattle.std.specs.List.{flat_map, range_with_len, AllByRecursion}
 use Rattle.pe_numbers.specs.declared.number.Number.{Number}
 use Rattle.pe_numbers.specs.declared.number.Number.TheVariants.{U16, U32}
 use Rattle.pe_numbers.specs.Numbers.{NumberFits, number_bytes, beginning_at}
 use Rattle.pe_numbers.specs.StandsAt.{StandsAt, stands-front, stands-back}
-use Rattle.coff_read.specs.Field.{field}
 use Rattle.coff_read.specs.Reading.{relocation_at}
 use Rattle.coff_read.specs.Records.{RelocationFits}
 use Rattle.coff_object.specs.Written.{relocation_numbers, relocation_bytes}

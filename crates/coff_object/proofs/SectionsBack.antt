@@ -24,7 +24,7 @@ use Rattle.coff_object.proofs.NameFields.{up_to_zero-filled, length-padded, inli
 use Rattle.coff_object.proofs.RelocationsBack.{relocation_read, relocations_read}
 use Rattle.coff_object.proofs.StringTable.{is_stored}
 use Rattle.coff_read.specs.FormFaults.{section_tests, relocation_tests, relocation_test}
-use Rattle.coff_read.specs.FormReading.{section_in, section_name, section_text, section_start, record_count}
+use Rattle.coff_read.specs.FormReading.{section_in, section_name, section_text, record_count}
 use Rattle.coff_read.specs.Forms.{Form}
 use Rattle.coff_object.proofs.SymbolsBack.{HasStrings, string_read}
 

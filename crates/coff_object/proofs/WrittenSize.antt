@@ -1,5 +1,5 @@
 -- The size of a written object, and its first bytes.
-use Rattle.std.proofs.Common.{◌≡◌, ℕ, ◌+◌, ◌*◌, ◌/◌, ◌^◌, ◌<◌, ◌≤◌, Bool, true, false, List, [], ◌∷◌, ◌++◌, length, Some, refl, sym, ap, ◌∙◌, length-append, arith}
+use Rattle.std.proofs.Common.{◌≡◌, ℕ, ◌+◌, ◌*◌, ◌/◌, ◌^◌, ◌<◌, ◌≤◌, Bool, true, false, List, [], ◌∷◌, ◌++◌, length, Some, refl, ap, ◌∙◌, length-append, arith}
 use Rattle.std.specs.Prelude.{nat_lt, ◌||◌}
 use Rattle.std.specs.List.{flat_map, list_any, AllByRecursion}
 use Rattle.std.proofs.lemmas.Bool.{le-ltb}
@@ -10,10 +10,10 @@ use Rattle.pe_numbers.specs.StandsAt.{StandsAt}
 use Rattle.coff_read.specs.Field.{field}
 use Rattle.coff_read.specs.ObjectFaults.{is_other_header}
 use Rattle.coff_read.specs.Records.{Section, Symbol, Object}
-use Rattle.coff_read.specs.FormRecords.{aux_records, records_of, is_bad_symbol}
+use Rattle.coff_read.specs.FormRecords.{records_of, is_bad_symbol}
 use Rattle.coff_read.specs.Forms.{Form, header_len, symbol_len}
 use Rattle.coff_object.specs.FormWriteFaults.{is_bad_header, most_sections, is_misread, is_bad_object}
-use Rattle.coff_object.specs.FormWritten.{optional_of, bodies_start, symbols_pointer, symbol_fields, symbol_bytes, coff_header, canon}
+use Rattle.coff_object.specs.FormWritten.{optional_of, bodies_start, symbol_fields, symbol_bytes, coff_header, canon}
 use Rattle.coff_object.specs.Sizes.{symbols_size}
 use Rattle.coff_object.specs.StringTableView.{counted}
 use Rattle.coff_read.specs.Strings.{string_bytes}

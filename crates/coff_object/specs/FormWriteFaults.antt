@@ -1,5 +1,5 @@
 -- The faults of an object that is to be written plain or big, by number: at the plain form these are the tests of WriteFaults.
-use Rattle.std.specs.Prelude.{ℕ, ◌+◌, ◌^◌, ◌-◌, ◌||◌, Bool, true, false, nat_lt, List, [], ◌∷◌, ◌++◌, length}
+use Rattle.std.specs.Prelude.{ℕ, ◌^◌, ◌-◌, ◌||◌, Bool, true, false, nat_lt, List, [], ◌∷◌, ◌++◌, length}
 use Rattle.std.specs.List.{list_any}
 use Rattle.pe_view.specs.Faults.{Test}
 use Rattle.coff_read.specs.Form.{is_bad_section}

@@ -3,11 +3,9 @@
 use coff_read::ObjSection;
 use std::alloc::Allocator;
 
-/// An object that is to be written plain or big; `S` is what its symbols are.
+/// An object that is to be written plain, or big if `BIG`; `S` is what its symbols are.
 #[derive(Clone, Copy)]
-pub(crate) struct Parts<'o, 'a, A: Allocator, S> {
-    /// Whether it is written as a big object.
-    pub big: bool,
+pub(crate) struct Parts<'o, 'a, A: Allocator, S, const BIG: bool> {
     /// The processor that the object is for.
     pub machine: u16,
     /// When the object was created.

@@ -172,6 +172,8 @@ fn push_section_fields<A: Allocator>(
 }
 
 /// Adds the name field of a symbol's record; a name that is too long is at an offset of the string table.
+// it serves both forms, and a call for each symbol would be dearer than what it does
+#[inline(always)]
 fn push_symbol_name<A: Allocator>(
     bytes: &mut Vec<u8, A>,
     place: u64,
@@ -188,26 +190,26 @@ fn push_symbol_name<A: Allocator>(
 }
 
 /// The size of a symbol's record in bytes.
-pub(crate) fn record_len(big: bool) -> u64
-    ensures { result ≡ symbol_len big }
+pub(crate) fn record_len<const BIG: bool>() -> u64
+    ensures { result ≡ symbol_len BIG }
 {
-    if big { 20 } else { 18 }
+    if BIG { 20 } else { 18 }
 }
 
 /// How many auxiliary records are in these bytes.
-pub(crate) fn aux_records(big: bool, aux: &[u8]) -> u64
-    ensures value { result ≡ length aux.now / symbol_len big }
+pub(crate) fn aux_records<const BIG: bool>(aux: &[u8]) -> u64
+    ensures value { result ≡ length aux.now / symbol_len BIG }
     ensures few { result ≤ length aux.now }
 {
     let len = aux.len() as u64;
-    if big { len / 20 } else { len / 18 }
+    if BIG { len / 20 } else { len / 18 }
 }
 
 /// The field SectionNumber of a symbol's record.
-fn number_of(big: bool, section: BigSection) -> u32
-    ensures { result ≡ section_number big (belongs_view section) }
+fn number_of<const BIG: bool>(section: BigSection) -> u32
+    ensures { result ≡ section_number BIG (belongs_view section) }
 {
-    if big {
+    if BIG {
         return section.number();
     }
     match section {
@@ -219,20 +221,19 @@ fn number_of(big: bool, section: BigSection) -> u32
 }
 
 /// Adds the fields of a symbol's record after its name.
-fn push_symbol_fields<A: Allocator>(
+fn push_symbol_fields<A: Allocator, const BIG: bool>(
     bytes: &mut Vec<u8, A>,
-    big: bool,
     symbol: BigSymbol,
 ) -> Result<(), AllocError>
-    requires few { form.aux_records big (big_symbol_view symbol) < 2 ^ 8 }
-    requires near { section_number big (big_symbol_view symbol).section < number_limit big }
+    requires few { form.aux_records BIG (big_symbol_view symbol) < 2 ^ 8 }
+    requires near { section_number BIG (big_symbol_view symbol).section < number_limit BIG }
     ensures fits { OnOk result (SymbolFits (big_symbol_view symbol.entry)) }
-    ensures bytes { OnOk result (bytes.new.items ≡ bytes.old.items ++ symbol_fields big (big_symbol_view symbol.entry)) }
+    ensures bytes { OnOk result (bytes.new.items ≡ bytes.old.items ++ symbol_fields BIG (big_symbol_view symbol.entry)) }
 {
-    let number = number_of(big, symbol.section);
-    let aux = aux_records(big, symbol.aux) as u8;
+    let number = number_of::<BIG>(symbol.section);
+    let aux = aux_records::<BIG>(symbol.aux) as u8;
     let (value, kind, class) = (symbol.value, symbol.kind, symbol.class);
-    if big {
+    if BIG {
         let fields = [U32(value), U32(number), U16(kind), U8(class), U8(aux)];
         return push_record::<12, A>(bytes, &fields);
     }
@@ -265,19 +266,18 @@ pub(crate) fn push_section_header<A: Allocator>(
 }
 
 /// Adds a symbol's record and its auxiliary records; a name that is too long is at an offset of the string table.
-pub(crate) fn push_symbol<A: Allocator>(
+pub(crate) fn push_symbol<A: Allocator, const BIG: bool>(
     bytes: &mut Vec<u8, A>,
-    big: bool,
     place: u64,
     symbol: BigSymbol,
 ) -> Result<(), AllocError>
     requires offset { place < 2 ^ 32 }
-    requires few { form.aux_records big (big_symbol_view symbol) < 2 ^ 8 }
-    requires near { section_number big (big_symbol_view symbol).section < number_limit big }
+    requires few { form.aux_records BIG (big_symbol_view symbol) < 2 ^ 8 }
+    requires near { section_number BIG (big_symbol_view symbol).section < number_limit BIG }
     ensures fits { OnOk result (SymbolFits (big_symbol_view symbol.entry)) }
-    ensures bytes { OnOk result (bytes.new.items ≡ bytes.old.items ++ (symbol_name_at place symbol.entry.name.now ++ (symbol_fields big (big_symbol_view symbol.entry) ++ symbol.entry.aux.now))) }
+    ensures bytes { OnOk result (bytes.new.items ≡ bytes.old.items ++ (symbol_name_at place symbol.entry.name.now ++ (symbol_fields BIG (big_symbol_view symbol.entry) ++ symbol.entry.aux.now))) }
 {
     push_symbol_name(bytes, place, symbol.name)?;
-    push_symbol_fields(bytes, big, symbol)?;
+    push_symbol_fields::<A, BIG>(bytes, symbol)?;
     bytes.extend_from_slice(symbol.aux)
 }

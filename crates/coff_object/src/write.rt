@@ -5,7 +5,7 @@ ghost use Rattle.std.specs.List.{flat_map, AllByRecursion};
 ghost use Rattle.pe_view.specs.Faults.{Answers, first_standing, AnswersOrWants};
 ghost use Rattle.coff_read.specs.BigView.{big_object_view};
 ghost use Rattle.coff_read.specs.FormFaults as form_faults;
-ghost use Rattle.coff_read.specs.FormRecords.{section_number, aux_records};
+ghost use Rattle.coff_read.specs.FormRecords.{section_number, aux_records, records_of};
 ghost use Rattle.coff_read.specs.Forms.{Big, header_len};
 ghost use Rattle.coff_read.specs.ObjectView.{section_view, object_view};
 ghost use Rattle.coff_read.specs.ObjectFaults.{IsObjectOf};
@@ -54,7 +54,9 @@ fn item_fault(number: u16, index: u64) -> Fault
 }
 
 /// Tests fault 81.
-fn check_names<A: Allocator, S: WideSymbol>(object: &Parts<'_, '_, A, S>) -> Result<(), Fault>
+fn check_names<A: Allocator, S: WideSymbol, const BIG: bool>(
+    object: &Parts<'_, '_, A, S, BIG>,
+) -> Result<(), Fault>
     ensures { Answers (name_tests (parts_view S.view object.now)) (λ _. ⊤) result }
 {
     if let Some(index) = zero_in_sections(object.sections) {
@@ -68,8 +70,8 @@ fn check_names<A: Allocator, S: WideSymbol>(object: &Parts<'_, '_, A, S>) -> Res
 }
 
 /// Tests faults 82 and 83.
-fn check_sections<A: Allocator + Copy, S: WideSymbol>(
-    object: &Parts<'_, '_, A, S>,
+fn check_sections<A: Allocator + Copy, S: WideSymbol, const BIG: bool>(
+    object: &Parts<'_, '_, A, S, BIG>,
     places: &NamePlaces<A>,
 ) -> Result<(), Fault>
     requires { ArePlacesOf (parts_view S.view object.now) places.now }
@@ -121,28 +123,27 @@ fn push_bodies<A: Allocator>(
 }
 
 /// Adds the records of symbols.
-fn push_symbols<A: Allocator + Copy, S: WideSymbol>(
+fn push_symbols<A: Allocator + Copy, S: WideSymbol, const BIG: bool>(
     bytes: &mut Vec<u8, A>,
-    big: bool,
     places: &NamePlaces<A>,
     symbols: &[S],
 ) -> Result<(), AllocError>
     requires places { places.now.symbols.items ≡ symbol_places (texts_in places.now.strings) (map S.view symbols.now) }
     requires offsets { 4 + length (string_bytes (texts_in places.now.strings)) < 2 ^ 32 }
-    requires few { AllByRecursion (λ (s : format.Symbol). aux_records big s < 2 ^ 8) (map S.view symbols.now) }
-    requires near { AllByRecursion (λ (s : format.Symbol). section_number big s.section < number_limit big) (map S.view symbols.now) }
+    requires few { AllByRecursion (λ (s : format.Symbol). aux_records BIG s < 2 ^ 8) (map S.view symbols.now) }
+    requires near { AllByRecursion (λ (s : format.Symbol). section_number BIG s.section < number_limit BIG) (map S.view symbols.now) }
     ensures fits { OnOk result (AllByRecursion SymbolFits (map S.view symbols.now)) }
-    ensures bytes { OnOk result (bytes.new.items ≡ bytes.old.items ++ flat_map (symbol_bytes big (texts_in places.now.strings)) (map S.view symbols.now)) }
+    ensures bytes { OnOk result (bytes.new.items ≡ bytes.old.items ++ flat_map (symbol_bytes BIG (texts_in places.now.strings)) (map S.view symbols.now)) }
 {
     for (symbol, place) in symbols.iter().zip(places.symbols.as_slice()) {
-        push_symbol(bytes, big, *place, symbol.wide())?;
+        push_symbol::<A, BIG>(bytes, *place, symbol.wide())?;
     }
     Ok(())
 }
 
 /// Whether there are symbols or strings.
-fn has_strings<A: Allocator + Copy, S: WideSymbol>(
-    object: &Parts<'_, '_, A, S>,
+fn has_strings<A: Allocator + Copy, S: WideSymbol, const BIG: bool>(
+    object: &Parts<'_, '_, A, S, BIG>,
     strings: &StringTable<A>,
 ) -> bool
     requires { texts_in strings.now ≡ strings_of (parts_view S.view object.now) }
@@ -152,8 +153,8 @@ fn has_strings<A: Allocator + Copy, S: WideSymbol>(
 }
 
 /// The size of the string table in bytes, with its size field; 0 if there is none.
-fn table_size<A: Allocator + Copy, S: WideSymbol>(
-    object: &Parts<'_, '_, A, S>,
+fn table_size<A: Allocator + Copy, S: WideSymbol, const BIG: bool>(
+    object: &Parts<'_, '_, A, S, BIG>,
     strings: &StringTable<A>,
 ) -> u64
     requires { texts_in strings.now ≡ strings_of (parts_view S.view object.now) }
@@ -167,45 +168,49 @@ fn table_size<A: Allocator + Copy, S: WideSymbol>(
 }
 
 /// The size of the header and of the optional header in bytes.
-fn header_size<A: Allocator + Copy, S: WideSymbol>(object: &Parts<'_, '_, A, S>) -> u64
-    ensures { result ≡ header_len object.now.big + length (optional_of object.now.big (parts_view S.view object.now)) }
+fn header_size<A: Allocator + Copy, S: WideSymbol, const BIG: bool>(
+    object: &Parts<'_, '_, A, S, BIG>,
+) -> u64
+    ensures { result ≡ header_len BIG + length (optional_of BIG (parts_view S.view object.now)) }
 {
-    if object.big {
+    if BIG {
         return 56;
     }
     20 + object.optional.len() as u64
 }
 
 /// The most sections that the form counts.
-fn most_sections(big: bool) -> u64
-    ensures { result ≡ form.most_sections big }
+fn most_sections<const BIG: bool>() -> u64
+    ensures { result ≡ form.most_sections BIG }
 {
-    if big { 0xffff_ffff } else { 0xffff }
+    if BIG { 0xffff_ffff } else { 0xffff }
 }
 
 /// The size of the written object in bytes.
-fn written_size<A: Allocator + Copy, S: WideSymbol>(
-    object: &Parts<'_, '_, A, S>,
+fn written_size<A: Allocator + Copy, S: WideSymbol, const BIG: bool>(
+    object: &Parts<'_, '_, A, S, BIG>,
     strings: &StringTable<A>,
 ) -> u64
     requires texts { texts_in strings.now ≡ strings_of (parts_view S.view object.now) }
     requires near { AllByRecursion (λ (s : format.Section). is_far (strings_of (parts_view S.view object.now)) s ≡ false) (parts_view S.view object.now).sections }
-    ensures { result ≡ counted (length (written.canon object.now.big (parts_view S.view object.now))) }
+    ensures { result ≡ counted (length (written.canon BIG (parts_view S.view object.now))) }
 {
     let sections = object.sections;
     let table = (sections.len() as u64).saturating_mul(40);
     header_size(object)
         .saturating_add(table)
         .saturating_add(bodies_size(sections))
-        .saturating_add(symbols_size(object.big, object.symbols))
+        .saturating_add(symbols_size::<S, BIG>(object.symbols))
         .saturating_add(table_size(object, strings))
 }
 
 /// Whether the header does not fit the form: the optional header, or what a big object does not store.
-fn is_bad_header<A: Allocator + Copy, S: WideSymbol>(object: &Parts<'_, '_, A, S>) -> bool
-    ensures { result ≡ is_bad_header object.now.big (parts_view S.view object.now) }
+fn is_bad_header<A: Allocator + Copy, S: WideSymbol, const BIG: bool>(
+    object: &Parts<'_, '_, A, S, BIG>,
+) -> bool
+    ensures { result ≡ is_bad_header BIG (parts_view S.view object.now) }
 {
-    if object.big {
+    if BIG {
         !object.optional.is_empty() || object.characteristics != 0
     } else {
         object.optional.len() > 65_535
@@ -213,42 +218,50 @@ fn is_bad_header<A: Allocator + Copy, S: WideSymbol>(object: &Parts<'_, '_, A, S
 }
 
 /// Whether the written object would begin as a file of another kind, if its sections are few enough.
-fn is_misread<A: Allocator + Copy, S: WideSymbol>(object: &Parts<'_, '_, A, S>) -> bool
-    requires { length object.now.sections.now ≤ form.most_sections object.now.big }
-    ensures { result ≡ form.is_misread object.now.big (parts_view S.view object.now) }
+fn is_misread<A: Allocator + Copy, S: WideSymbol, const BIG: bool>(
+    object: &Parts<'_, '_, A, S, BIG>,
+) -> bool
+    requires { length object.now.sections.now ≤ form.most_sections BIG }
+    ensures { result ≡ form.is_misread BIG (parts_view S.view object.now) }
 {
-    if object.big {
+    if BIG {
         return false;
     }
     let count = object.sections.len() as u16;
     is_other_header(object.machine, count, object.time_stamp)
 }
 
-/// Whether the object does not fit the form: fault 85.
-fn is_bad_object<A: Allocator + Copy, S: WideSymbol>(object: &Parts<'_, '_, A, S>) -> bool
-    requires { length (written.canon object.now.big (parts_view S.view object.now)) < 2 ^ 32 }
-    ensures { result ≡ is_bad_object object.now.big (parts_view S.view object.now) }
+/// Whether the object, whose symbols have so many records, does not fit the form: fault 85.
+fn is_bad_object<A: Allocator + Copy, S: WideSymbol, const BIG: bool>(
+    object: &Parts<'_, '_, A, S, BIG>,
+    records: u64,
+) -> bool
+    requires small { length (written.canon BIG (parts_view S.view object.now)) < 2 ^ 32 }
+    requires records { records ≡ counted (records_of BIG (parts_view S.view object.now).symbols) }
+    ensures { result ≡ is_bad_object BIG (parts_view S.view object.now) }
 {
     if is_bad_header(object) {
         return true;
     }
-    if object.sections.len() as u64 > most_sections(object.big) {
+    if object.sections.len() as u64 > most_sections::<BIG>() {
         return true;
     }
     if is_misread(object) {
         return true;
     }
-    let records = record_count(object.big, object.symbols);
-    has_bad_item(object.big, object.sections, object.symbols, records)
+    has_bad_item(BIG, object.sections, object.symbols, records)
 }
 
-/// Adds the header of a plain object; `symbols_at` is the file offset of the symbol table, or 0 without symbols and strings.
-fn push_plain_header<A: Allocator + Copy, S: WideSymbol>(
+/// Adds the header of a plain object; `symbols_at` is the file offset of the symbol table, or 0 without symbols and strings, and
+/// `records` how many records it has.
+fn push_plain_header<A: Allocator + Copy, S: WideSymbol, const BIG: bool>(
     bytes: &mut Vec<u8, A>,
-    object: &Parts<'_, '_, A, S>,
+    object: &Parts<'_, '_, A, S, BIG>,
     symbols_at: u32,
+    records: u32,
 ) -> Result<(), AllocError>
     requires start { symbols_at ≡ symbols_pointer false (parts_view S.view object.now) }
+    requires records { records ≡ records_of false (parts_view S.view object.now).symbols }
     requires form { IsWritable false (parts_view S.view object.now) }
     ensures fits { OnOk result (HeaderFits (parts_view S.view object.now)) }
     ensures bytes { OnOk result (bytes.new.items ≡ bytes.old.items ++ coff_header false (parts_view S.view object.now)) }
@@ -260,20 +273,23 @@ fn push_plain_header<A: Allocator + Copy, S: WideSymbol>(
             U16(object.sections.len() as u16),
             U32(object.time_stamp),
             U32(symbols_at),
-            U32(record_count(false, object.symbols) as u32),
+            U32(records),
             U16(object.optional.len() as u16),
             U16(object.characteristics),
         ],
     )
 }
 
-/// Adds the header of a big object; `symbols_at` is the file offset of the symbol table, or 0 without symbols and strings.
-fn push_big_header<A: Allocator + Copy, S: WideSymbol>(
+/// Adds the header of a big object; `symbols_at` is the file offset of the symbol table, or 0 without symbols and strings, and
+/// `records` how many records it has.
+fn push_big_header<A: Allocator + Copy, S: WideSymbol, const BIG: bool>(
     bytes: &mut Vec<u8, A>,
-    object: &Parts<'_, '_, A, S>,
+    object: &Parts<'_, '_, A, S, BIG>,
     symbols_at: u32,
+    records: u32,
 ) -> Result<(), AllocError>
     requires start { symbols_at ≡ symbols_pointer true (parts_view S.view object.now) }
+    requires records { records ≡ records_of true (parts_view S.view object.now).symbols }
     requires form { IsWritable true (parts_view S.view object.now) }
     ensures fits { OnOk result (HeaderFits (parts_view S.view object.now)) }
     ensures bytes { OnOk result (bytes.new.items ≡ bytes.old.items ++ coff_header true (parts_view S.view object.now)) }
@@ -297,46 +313,49 @@ fn push_big_header<A: Allocator + Copy, S: WideSymbol>(
             U32(0),
             U32(object.sections.len() as u32),
             U32(symbols_at),
-            U32(record_count(true, object.symbols) as u32),
+            U32(records),
         ],
     )
 }
 
-/// Adds the header; `symbols_at` is the file offset of the symbol table, or 0 without symbols and strings.
-fn push_header<A: Allocator + Copy, S: WideSymbol>(
+/// Adds the header; `symbols_at` is the file offset of the symbol table, or 0 without symbols and strings, and
+/// `records` how many records it has.
+fn push_header<A: Allocator + Copy, S: WideSymbol, const BIG: bool>(
     bytes: &mut Vec<u8, A>,
-    object: &Parts<'_, '_, A, S>,
+    object: &Parts<'_, '_, A, S, BIG>,
     symbols_at: u32,
+    records: u32,
 ) -> Result<(), AllocError>
-    requires start { symbols_at ≡ symbols_pointer object.now.big (parts_view S.view object.now) }
-    requires form { IsWritable object.now.big (parts_view S.view object.now) }
+    requires start { symbols_at ≡ symbols_pointer BIG (parts_view S.view object.now) }
+    requires records { records ≡ records_of BIG (parts_view S.view object.now).symbols }
+    requires form { IsWritable BIG (parts_view S.view object.now) }
     ensures fits { OnOk result (HeaderFits (parts_view S.view object.now)) }
-    ensures bytes { OnOk result (bytes.new.items ≡ bytes.old.items ++ coff_header object.now.big (parts_view S.view object.now)) }
+    ensures bytes { OnOk result (bytes.new.items ≡ bytes.old.items ++ coff_header BIG (parts_view S.view object.now)) }
 {
-    if object.big {
-        push_big_header(bytes, object, symbols_at)
+    if BIG {
+        push_big_header(bytes, object, symbols_at, records)
     } else {
-        push_plain_header(bytes, object, symbols_at)
+        push_plain_header(bytes, object, symbols_at, records)
     }
 }
 
 /// Adds the optional header, which a big object has not.
-fn push_optional<A: Allocator + Copy, S: WideSymbol>(
+fn push_optional<A: Allocator + Copy, S: WideSymbol, const BIG: bool>(
     bytes: &mut Vec<u8, A>,
-    object: &Parts<'_, '_, A, S>,
+    object: &Parts<'_, '_, A, S, BIG>,
 ) -> Result<(), AllocError>
-    ensures { OnOk result (bytes.new.items ≡ bytes.old.items ++ optional_of object.now.big (parts_view S.view object.now)) }
+    ensures { OnOk result (bytes.new.items ≡ bytes.old.items ++ optional_of BIG (parts_view S.view object.now)) }
 {
-    if object.big {
+    if BIG {
         return Ok(());
     }
     bytes.extend_from_slice(object.optional)
 }
 
 /// Adds the string table.
-fn push_strings<A: Allocator + Copy, S: WideSymbol>(
+fn push_strings<A: Allocator + Copy, S: WideSymbol, const BIG: bool>(
     bytes: &mut Vec<u8, A>,
-    object: &Parts<'_, '_, A, S>,
+    object: &Parts<'_, '_, A, S, BIG>,
     strings: &StringTable<A>,
 ) -> Result<(), AllocError>
     requires texts { texts_in strings.now ≡ strings_of (parts_view S.view object.now) }
@@ -351,21 +370,23 @@ fn push_strings<A: Allocator + Copy, S: WideSymbol>(
 }
 
 /// Where the bodies of an object's sections begin in its written form: after the section table.
-fn bodies_start<A: Allocator + Copy, S: WideSymbol>(object: &Parts<'_, '_, A, S>) -> u32
-    requires { IsWritable object.now.big (parts_view S.view object.now) }
-    ensures { result ≡ bodies_start object.now.big (parts_view S.view object.now) }
+fn bodies_start<A: Allocator + Copy, S: WideSymbol, const BIG: bool>(
+    object: &Parts<'_, '_, A, S, BIG>,
+) -> u32
+    requires { IsWritable BIG (parts_view S.view object.now) }
+    ensures { result ≡ bodies_start BIG (parts_view S.view object.now) }
 {
     header_size(object) as u32 + 40 * object.sections.len() as u32
 }
 
 /// PointerToSymbolTable of an object.
-fn symbols_pointer<A: Allocator + Copy, S: WideSymbol>(
-    object: &Parts<'_, '_, A, S>,
+fn symbols_pointer<A: Allocator + Copy, S: WideSymbol, const BIG: bool>(
+    object: &Parts<'_, '_, A, S, BIG>,
     strings: &StringTable<A>,
 ) -> u32
     requires texts { texts_in strings.now ≡ strings_of (parts_view S.view object.now) }
-    requires form { IsWritable object.now.big (parts_view S.view object.now) }
-    ensures { result ≡ symbols_pointer object.now.big (parts_view S.view object.now) }
+    requires form { IsWritable BIG (parts_view S.view object.now) }
+    ensures { result ≡ symbols_pointer BIG (parts_view S.view object.now) }
 {
     if has_strings(object, strings) {
         bodies_start(object) + bodies_size(object.sections) as u32
@@ -374,61 +395,67 @@ fn symbols_pointer<A: Allocator + Copy, S: WideSymbol>(
     }
 }
 
-/// The size of the written object in bytes, or fault 84 or 85.
-fn check_form<A: Allocator + Copy, S: WideSymbol>(
-    object: &Parts<'_, '_, A, S>,
+/// The size of the written object, whose symbols have so many records, in bytes, or fault 84 or 85.
+fn check_form<A: Allocator + Copy, S: WideSymbol, const BIG: bool>(
+    object: &Parts<'_, '_, A, S, BIG>,
     strings: &StringTable<A>,
+    records: u64,
 ) -> Result<usize, Fault>
     requires texts { texts_in strings.now ≡ strings_of (parts_view S.view object.now) }
     requires near { AllByRecursion (λ (s : format.Section). is_far (strings_of (parts_view S.view object.now)) s ≡ false) (parts_view S.view object.now).sections }
-    ensures { Answers (form_tests object.now.big (parts_view S.view object.now)) (λ size. size ≡ length (written.canon object.now.big (parts_view S.view object.now))) result }
+    requires records { records ≡ counted (records_of BIG (parts_view S.view object.now).symbols) }
+    ensures { Answers (form_tests BIG (parts_view S.view object.now)) (λ size. size ≡ length (written.canon BIG (parts_view S.view object.now))) result }
 {
     let size = written_size(object, strings);
     if size > u64::from(u32::MAX) {
         return Err(item_fault(84, 0));
     }
-    if is_bad_object(object) {
+    if is_bad_object(object, records) {
         return Err(item_fault(85, 0));
     }
     Ok(size as usize)
 }
 
-/// The file of an object without a fault, of `size` bytes, which are allocated at once.
-fn write_parts<A: Allocator + Copy, S: WideSymbol>(
+/// The file of an object without a fault, of `size` bytes, which are allocated at once; `records` is how many its symbols have.
+fn write_parts<A: Allocator + Copy, S: WideSymbol, const BIG: bool>(
     alloc: A,
-    object: &Parts<'_, '_, A, S>,
+    object: &Parts<'_, '_, A, S, BIG>,
     places: &NamePlaces<A>,
     size: usize,
+    records: u32,
 ) -> Result<Vec<u8, A>, AllocError>
     requires places { ArePlacesOf (parts_view S.view object.now) places.now }
-    requires form { IsWritable object.now.big (parts_view S.view object.now) }
+    requires form { IsWritable BIG (parts_view S.view object.now) }
+    requires records { records ≡ records_of BIG (parts_view S.view object.now).symbols }
     ensures fits { OnOk result (Fits (parts_view S.view object.now)) }
-    ensures bytes { IfOk result (λ bytes. bytes.items ≡ written.canon object.now.big (parts_view S.view object.now)) }
+    ensures bytes { IfOk result (λ bytes. bytes.items ≡ written.canon BIG (parts_view S.view object.now)) }
 {
     let mut bytes = Vec::with_capacity(alloc, size)?;
-    push_header(&mut bytes, object, symbols_pointer(object, &places.strings))?;
+    let symbols_at = symbols_pointer(object, &places.strings);
+    push_header(&mut bytes, object, symbols_at, records)?;
     push_optional(&mut bytes, object)?;
     push_table(&mut bytes, places, bodies_start(object), object.sections)?;
     push_bodies(&mut bytes, object.sections)?;
-    push_symbols(&mut bytes, object.big, places, object.symbols)?;
+    push_symbols::<A, S, BIG>(&mut bytes, places, object.symbols)?;
     push_strings(&mut bytes, object, &places.strings)?;
     Ok(bytes)
 }
 
 /// The file of an object that is written plain or big, or the least of faults 81 to 85, or out of memory.
-fn write_form<A: Allocator + Copy, S: WideSymbol>(
+fn write_form<A: Allocator + Copy, S: WideSymbol, const BIG: bool>(
     alloc: A,
-    object: &Parts<'_, '_, A, S>,
+    object: &Parts<'_, '_, A, S, BIG>,
 ) -> Result<Vec<u8, A>, ObjectError>
-    ensures exact { AnswersOrWants (form.write_tests object.now.big (parts_view S.view object.now)) (λ bytes. bytes.items ≡ written.canon object.now.big (parts_view S.view object.now)) result }
-    ensures read_back { IfOk result (λ bytes. form_faults.IsObjectOf object.now.big bytes.items (parts_view S.view object.now)) }
+    ensures exact { AnswersOrWants (form.write_tests BIG (parts_view S.view object.now)) (λ bytes. bytes.items ≡ written.canon BIG (parts_view S.view object.now)) result }
+    ensures read_back { IfOk result (λ bytes. form_faults.IsObjectOf BIG bytes.items (parts_view S.view object.now)) }
     ensures early { (fault : code_fault.Fault) → first_standing (name_tests (parts_view S.view object.now)) ≡ Some fault → result ≡ Err (Refusal.Fault fault) }
 {
     check_names(object)?;
     let places = place_names(alloc, object)?;
     check_sections(object, &places)?;
-    let size = check_form(object, &places.strings)?;
-    let bytes = write_parts(alloc, object, &places, size)?;
+    let records = record_count::<S, BIG>(object.symbols);
+    let size = check_form(object, &places.strings, records)?;
+    let bytes = write_parts(alloc, object, &places, size, records as u32)?;
     Ok(bytes)
 }
 
@@ -445,8 +472,7 @@ pub fn write_object<A: Allocator + Copy>(
     ensures read_back { IfOk result (λ bytes. IsObjectOf bytes.items (object_view object.now)) }
     ensures early { (fault : code_fault.Fault) → first_standing (name_tests (object_view object.now)) ≡ Some fault → result ≡ Err (Refusal.Fault fault) }
 {
-    let parts = Parts {
-        big: false,
+    let parts: Parts<'_, '_, A, _, false> = Parts {
         machine: object.machine,
         time_stamp: object.time_stamp,
         characteristics: object.characteristics,
@@ -471,8 +497,7 @@ pub fn write_big_object<A: Allocator + Copy>(
     ensures read_back { IfOk result (λ bytes. form_faults.IsObjectOf Big bytes.items (big_object_view object.now)) }
     ensures early { (fault : code_fault.Fault) → first_standing (name_tests (big_object_view object.now)) ≡ Some fault → result ≡ Err (Refusal.Fault fault) }
 {
-    let parts = Parts {
-        big: true,
+    let parts: Parts<'_, '_, A, _, true> = Parts {
         machine: object.machine,
         time_stamp: object.time_stamp,
         characteristics: object.characteristics,

@@ -67,6 +67,8 @@ impl<'a> Relocations<'a> {
     }
 
     /// A list of them.
+    // both forms of an object ask for it, most often for a few
+    #[inline(always)]
     pub(crate) fn read<A: Allocator>(self, alloc: A) -> Result<Vec<Relocation, A>, AllocError>
         ensures { IfOk result (λ list. list.items ≡ relocations_view self.entry) }
     {

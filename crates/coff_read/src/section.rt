@@ -151,6 +151,8 @@ pub(crate) fn section_at<'a, const BIG: bool>(
 }
 
 /// A section with a list of its relocations.
+// it serves both forms, and a section by value is dear to pass
+#[inline(always)]
 fn read_section<'a, A: Allocator>(
     alloc: A,
     section: FileSection<'a>,

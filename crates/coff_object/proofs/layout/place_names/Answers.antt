@@ -1,5 +1,5 @@
 -- The names of sections come first, then those of symbols.
-use Rattle.std.proofs.Common.{◌∙◌, [], ap}
+use Rattle.std.proofs.Common.{◌∙◌, ap}
 use Rattle.std.specs.Prelude.{map}
 use Rattle.coff_read.specs.ObjectView.{section_view}
 use Rattle.coff_object.specs.PartsView.{parts_view}

@@ -1,16 +1,18 @@
 -- All items are counted.
-use Rattle.std.proofs.Common.{◌≡◌, ◌∙◌, ℕ, ◌+◌, ◌<◌, ◌^◌, length, refl, ap, arith}
+use denote.Param.{number}
+use Rattle.std.proofs.Common.{◌≡◌, ◌+◌, length, refl, ap, arith}
 use Rattle.std.specs.Prelude.{map}
 use Rattle.coff_read.specs.Forms.{symbol_len}
 use Rattle.coff_read.specs.Records.{Symbol}
 use Rattle.coff_object.specs.Sizes.{symbols_size}
 use Rattle.coff_object.specs.StringTableView.{counted}
+use Rattle.coff_object.specs.contracts.layout.symbols_size.{BIG-type}
 use Rattle.coff_object.proofs.Sizes.{all_counted, next_counted}
 use Rattle.coff_object.proofs.layout.symbols_size.Goals as goal
 
 pub loop-symbol-preserved : goal.loop-symbol-preserved
 loop-symbol-preserved g c =
-    let big = c.args.big in
+    let big = BIG-type g.row.S (number g.row.BIG) in
     let s = g.S.WideSymbol.view c.symbol-item.result in
     let aux : length c.wide.result.aux.now ≡ length s.aux = ap (λ (y : Symbol). length y.aux) c.wide.ensures in
     let record_is = c.record_len.ensures in
@@ -24,4 +26,6 @@ loop-symbol-preserved g c =
     }
 
 pub returns : goal.returns
-returns g c = all_counted (λ xs. symbols_size c.args.big (map g.S.WideSymbol.view xs)) c.args.symbols.now c.loop-symbol.symbol-index _ _ c.loop-symbol-test.false c.loop-symbol.invariant.small refl c.loop-symbol.invariant.sum
+returns g c =
+    let big = BIG-type g.row.S (number g.row.BIG) in
+    all_counted (λ xs. symbols_size big (map g.S.WideSymbol.view xs)) c.args.symbols.now c.loop-symbol.symbol-index _ _ c.loop-symbol-test.false c.loop-symbol.invariant.small refl c.loop-symbol.invariant.sum

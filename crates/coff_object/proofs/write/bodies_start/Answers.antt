@@ -1,11 +1,7 @@
 -- The section table has a header for each section.
-use Rattle.std.proofs.Common.{◌≡◌, ◌∙◌, ℕ, ◌+◌, ◌*◌, length, sym, ap, arith}
-use Rattle.std.specs.Prelude.{map}
+use Rattle.std.proofs.Common.{sym, arith}
 use Rattle.std.proofs.lemmas.List.{length-map}
-use Rattle.coff_read.specs.Forms.{header_len}
 use Rattle.coff_read.specs.ObjectView.{section_view}
-use Rattle.coff_object.specs.FormWritten.{optional_of}
-use Rattle.coff_object.specs.PartsView.{parts_view}
 use Rattle.coff_object.proofs.write.bodies_start.Goals as goal
 
 pub overflow_cast-result : goal.overflow_cast-result

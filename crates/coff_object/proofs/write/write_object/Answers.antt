@@ -1,5 +1,5 @@
 -- What both forms are written by, at the plain form.
-use Rattle.std.proofs.Common.{◌≡◌, ℕ, List, Some, refl, sym, subst, ◌+◌, ◌<◌, ◌≤◌, true, false, length}
+use Rattle.std.proofs.Common.{◌≡◌, ℕ, List, Some, refl, sym, subst, false}
 use Rattle.std.specs.Prelude.{map}
 use Rattle.std.proofs.lemmas.Result.{IfOk-weaker}
 use Rattle.pe_view.specs.Faults.{AnswersOrWants, Test, first_standing}
