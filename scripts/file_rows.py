@@ -25,6 +25,11 @@ LAW = re.compile(r"((?:^/// .*\n)+)pub fn (\w+)", re.M)
 FUNCTION = re.compile(r"^pub fn (\w+)", re.M)
 #: What begins the lines of a file's first comment, by its ending.
 MARKS = {".rt": "//!", ".rs": "//!", ".antt": "--"}
+#: The folders of a crate's wrong bodies, and what they are.
+EDITS = {
+    "must-fail": "wrong bodies that the prover refuses",
+    "wrong": "wrong bodies that the prover refuses, which `scripts/wrong_bodies.py` tries",
+}
 #: The sources outside the crates: their folders, and their endings. The folders in MADE have none.
 OTHERS = ("bindings", "describe", "scripts")
 ENDINGS = {".c", ".h", ".py", ".rs"}
@@ -97,9 +102,9 @@ def lemmas_of(crate):
     return [path for path in sorted((TOP / "crates" / crate / "proofs").glob("*.antt")) if path.name not in WITHOUT_ROW]
 
 
-def edits_of(crate):
-    """The wrong bodies of a crate."""
-    return sorted((TOP / "crates" / crate / "must-fail").glob("*.edit"))
+def edits_of(crate, folder):
+    """The wrong bodies of a crate: those that the gate tries, or others."""
+    return sorted((TOP / "crates" / crate / folder).glob("*.edit"))
 
 
 def folder_rows(paths):
@@ -180,7 +185,7 @@ def crate_part(crate):
     rows = [
         *folder_rows(files_of(crate)),
         *count_row(crate, "proofs", lemmas_of(crate), "modules of lemmas"),
-        *count_row(crate, "must-fail", edits_of(crate), "wrong bodies that the prover refuses"),
+        *(it for folder, what in EDITS.items() for it in count_row(crate, folder, edits_of(crate, folder), what)),
     ]
     if rows:
         yield from ("", "| Folder | Files |", "|---|---|", *rows)
@@ -198,7 +203,7 @@ def page():
 def whole():
     """The row of each source, and of each wrong body."""
     yield from map(row, sources())
-    for path in [path for crate in crates() for path in edits_of(crate)]:
+    for path in [path for crate in crates() for folder in EDITS for path in edits_of(crate, folder)]:
         yield f"| {path.relative_to(TOP)} | A wrong body that the prover refuses. | |"
 
 
