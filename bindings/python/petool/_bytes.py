@@ -87,7 +87,7 @@ class FileBytes:
             return b""
         start = at - self.address
         cut = self._source[start : start + length]
-        return cut if type(cut) is bytes else cut.tobytes()
+        return cut if isinstance(cut, bytes) else bytes(cut)
 
     def close(self) -> None:
         self.is_held = False

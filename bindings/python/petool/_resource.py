@@ -51,19 +51,19 @@ class Version:
 
     def __init__(self, fixed: Optional[_records.VersionInfo], strings: Tuple[VersionString, ...]) -> None:
         #: The version of the file.
-        self.file_version: Optional[FourNumbers] = fixed and _four(fixed.file_version)
+        self.file_version: Optional[FourNumbers] = None if fixed is None else _four(fixed.file_version)
         #: The version of the product.
-        self.product_version: Optional[FourNumbers] = fixed and _four(fixed.product_version)
+        self.product_version: Optional[FourNumbers] = None if fixed is None else _four(fixed.product_version)
         #: Which flags are valid.
-        self.flags_mask: Optional[int] = fixed and fixed.flags_mask
+        self.flags_mask: Optional[int] = None if fixed is None else fixed.flags_mask
         #: The flags: 1 a debug build, 2 a prerelease, 8 a private build.
-        self.flags: Optional[int] = fixed and fixed.flags
+        self.flags: Optional[int] = None if fixed is None else fixed.flags
         #: The operating system that the file is for: 0x40004 Windows.
-        self.system: Optional[int] = fixed and fixed.system
+        self.system: Optional[int] = None if fixed is None else fixed.system
         #: What the file is: 1 a program, 2 a library, 3 a driver.
-        self.kind: Optional[int] = fixed and fixed.kind
+        self.kind: Optional[int] = None if fixed is None else fixed.kind
         #: The kind of driver or font.
-        self.subkind: Optional[int] = fixed and fixed.subkind
+        self.subkind: Optional[int] = None if fixed is None else fixed.subkind
         #: The strings, of each table in its order.
         self.strings = strings
 
@@ -121,9 +121,8 @@ def resource_of(file: FileBytes) -> Callable[..., Resource]:
 
 def version_by(file: FileBytes, ask: Callable[..., int], rows: Callable[[], memoryview]) -> Optional[Version]:
     """The version information that calls have: its fixed part, and the rows of its strings."""
-    fixed: Optional[_records.VersionInfo] = _records.VersionInfo()
-    if ask(library.petool_version, ctypes.byref(fixed)) == _library.ABSENT:
-        fixed = None
+    found = _records.VersionInfo()
+    fixed = None if ask(library.petool_version, ctypes.byref(found)) == _library.ABSENT else found
     each = LAYOUTS["version_text"].struct.iter_unpack(rows())
     strings = tuple(VersionString(*(_text(file, *pair) for pair in zip(row[::2], row[1::2]))) for row in each)
     return Version(fixed, strings) if fixed is not None or strings else None

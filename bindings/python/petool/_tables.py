@@ -227,7 +227,7 @@ def tls_by(ask: Callable[..., int], callbacks: Callable[[], memoryview]) -> Opti
     tls = _records.TlsDirectory()
     if ask(ctypes.byref(tls)) == _library.ABSENT:
         return None
-    return Tls(*(getattr(tls, name) for name, _ in tls._fields_), tuple(callbacks().cast("Q")))
+    return Tls._make((*(getattr(tls, name) for name, _ in tls._fields_), tuple(callbacks().cast("Q"))))
 
 
 def values_of(layout: RowLayout, rows: memoryview) -> Iterator[Optional[int]]:

@@ -1,5 +1,8 @@
 """What an image's file says of itself: its CheckSum, its certificates and signatures, its Rich header and its overlay."""
 
+# the field `count` of a pair has the name of a method of tuples
+# mypy: disable-error-code="assignment"
+
 from __future__ import annotations
 
 import ctypes
