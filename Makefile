@@ -2,12 +2,13 @@
 #
 #   make [-j4] petool                      builds the program; with -j, several crates are proved at a time
 #   make [-j4]                             builds the program and the library
+#   make [-j4] page                        builds the page and the package for JavaScript in $(O)/page and $(O)/js
 #   make install [PREFIX=..] [DESTDIR=..]  installs them, with man pages, completions and pages
 #   make uninstall [PREFIX=..] ..          removes what was installed
 #
 # LIBDIR and ZSHDIR name other folders for the library and for zsh's completion. Results of `rt ci` are used if they are newer than
-# the sources. PROGRAM and CALLS may name a program and an archive of the calls that exist already; with PROGRAM and LIBRARY, which
-# names a libpetool.a, `rt` is not needed. Give whole paths.
+# the sources. PROGRAM and CALLS may name a program and an archive of the calls that exist already, and WEBPAGE a page; with PROGRAM,
+# WEBPAGE and LIBRARY, which names a libpetool.a, `rt` is not needed. Give whole paths.
 #
 # What `rt` builds is in crates/*/out, and scripts/prove.py keeps it for other checkouts; all else is made in $(O), outside the
 # repository.
@@ -26,16 +27,19 @@ INCLUDE := $(AT)/include
 SHARE := $(AT)/share
 
 PROGRAM := crates/petool/out/petool
+# empty to install none
+WEBPAGE := $(O)/page/petool.html
 # folders too, since their times change if a source is removed
 SOURCES := crates.txt $(shell find crates/*/src crates/*/specs crates/*/proofs)
 SHELLS := bash zsh fish
 # the pages that are installed, in the same folders as here, so that their links work; a link to a page that is not installed
 # becomes plain words
 PAGES := README.md $(patsubst %,docs/%.md,C FAULTS FORMAT GUIDE JSON LIBRARIES PROVED)
+PICTURES := docs/page.png
 NOT_INSTALLED := (\.\./)?((docs/)?(CHANGES|DECISIONS|MAP|PERF|TESTS)\.md|(bindings|crates|describe)/)
 
 .DELETE_ON_ERROR:
-.PHONY: all petool install uninstall anew
+.PHONY: all petool page install uninstall anew
 all: $(PROGRAM) $(SHELLS:%=$(O)/completions.%)
 	$(MAKE) -C bindings/c O=$(O)/c PREFIX=$(PREFIX) LIBDIR=$(LIBDIR) library
 
@@ -51,12 +55,51 @@ crates/petool/out/petool: $(SOURCES)
 	scripts/prove.py --jobs $(JOBS) $(WANTED)
 	touch $@
 
+# The page and the package: `rt ci` takes no crate of the kind wasm64, so the module is proved and built in a copy of the sources where
+# the line of petool_page says this in place of staticlib. The copy has the libraries below it, as hard links if it can. Debian's
+# binaryen makes of the module the form for a memory of 32-bit addresses.
+COPY := $(O)/module
+PAGE_SOURCES := $(wildcard page/*.html page/*.css page/build.py page/src/*.mjs) bindings/js/faults.py describe/faults.txt
+PACKAGE := $(wildcard bindings/js/*.mjs) $(addprefix bindings/js/,petool.d.ts package.json README.md)
+FEATURES := memory64 bulk-memory multivalue mutable-globals nontrapping-float-to-int sign-ext
+
+page: $(O)/page/petool.html $(O)/js/package.json
+
+$(O)/js/petool64.wasm: $(SOURCES) scripts/prove.py
+	rm -rf $(COPY)
+	mkdir -p $(COPY) $(O)/js
+	tar -c --exclude=out HANDLES crates scripts | tar -x -C $(COPY)
+	for it in crates/*/out/rlib; do \
+	    case $$it in *\** | crates/petool_page/*) continue ;; esac; \
+	    mkdir -p $(COPY)/$${it%/rlib} || exit; \
+	    cp -al $$it $(COPY)/$$it 2>/dev/null || { rm -rf $(COPY)/$$it && cp -a --reflink=auto $$it $(COPY)/$$it; } || exit; \
+	done
+	sed 's/^petool_page staticlib:/petool_page wasm64:/' crates.txt > $(COPY)/crates.txt
+	$(COPY)/scripts/prove.py --jobs $(JOBS) petool_page
+	cp $(COPY)/crates/petool_page/out/petool_page.wasm $@
+
+$(O)/js/petool32.wasm: $(O)/js/petool64.wasm
+	wasm-opt $(FEATURES:%=--enable-%) --memory64-lowering $< -o $@
+
+$(O)/js/faults.json: bindings/js/faults.py describe/faults.py describe/faults.txt
+	mkdir -p $(O)/js
+	bindings/js/faults.py > $@
+
+$(O)/js/package.json: $(PACKAGE) $(O)/js/petool64.wasm $(O)/js/petool32.wasm $(O)/js/faults.json
+	cp $(PACKAGE) $(O)/js
+	bindings/js/faults.py --into $(O)/js/fault.mjs
+	touch $@
+
+$(O)/page/petool.html: $(PAGE_SOURCES) $(PACKAGE) $(O)/js/petool32.wasm $(O)/js/faults.json
+	mkdir -p $(O)/page
+	page/build.py $(O)/js/petool32.wasm $(O)/js/faults.json $@
+
 # made each time, since another checkout may have made the old ones
 $(O)/completions.%: anew
 	mkdir -p $(O)
 	python3 scripts/completions.py $* > $@
 
-install: all
+install: all $(WEBPAGE)
 	install -d $(BIN) $(LIB)/pkgconfig $(INCLUDE) $(SHARE)/man/man1 $(SHARE)/man/man3 $(SHARE)/doc/petool/docs \
 	    $(SHARE)/bash-completion/completions $(ZSH) $(SHARE)/fish/vendor_completions.d
 	install -m 755 $(PROGRAM) $(BIN)/petool
@@ -67,15 +110,16 @@ install: all
 	install -m 644 man/petool.1 $(SHARE)/man/man1/petool.1
 	install -m 644 man/petool.h.3 $(SHARE)/man/man3/petool.h.3
 	install -m 644 README.md $(SHARE)/doc/petool
-	install -m 644 $(filter docs/%,$(PAGES)) $(SHARE)/doc/petool/docs
+	install -m 644 $(filter docs/%,$(PAGES)) $(PICTURES) $(SHARE)/doc/petool/docs
 	sed -E -i 's,\[([^]]*)\]\($(NOT_INSTALLED)[^)]*\),\1,g' $(PAGES:%=$(SHARE)/doc/petool/%)
 	install -m 644 $(O)/completions.bash $(SHARE)/bash-completion/completions/petool
 	install -m 644 $(O)/completions.zsh $(ZSH)/_petool
 	install -m 644 $(O)/completions.fish $(SHARE)/fish/vendor_completions.d/petool.fish
+	$(if $(WEBPAGE),install -D -m 644 $(WEBPAGE) $(SHARE)/petool/petool.html)
 
 # the installed files, but not the folders, which others may use too
 uninstall:
 	rm -f $(BIN)/petool $(INCLUDE)/petool.h $(LIB)/libpetool.a $(LIB)/libpetool.so.2 $(LIB)/libpetool.so \
 	    $(LIB)/pkgconfig/petool.pc $(SHARE)/man/man1/petool.1 $(SHARE)/man/man3/petool.h.3 \
 	    $(SHARE)/bash-completion/completions/petool $(ZSH)/_petool $(SHARE)/fish/vendor_completions.d/petool.fish
-	rm -rf $(SHARE)/doc/petool
+	rm -rf $(SHARE)/doc/petool $(SHARE)/petool

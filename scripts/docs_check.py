@@ -46,6 +46,8 @@ LISTS = [
 ]
 #: What the program and the library are made of; all other crates are of tests and of the benchmark.
 MADE_OF = ("petool", "petool_c")
+#: Crates that are in std, which a crate names only if its proofs cite theirs.
+PARTS_OF_STD = {"core", "std_alloc"}
 #: Words between the names of ported crates.
 PLAIN_WORDS = set("and for views in the benchmark alone".split())
 #: The beginning of a trait, an `impl`, a function, or a condition.
@@ -359,7 +361,7 @@ def ported(all_crates):
     for crate in below:
         below += [it for it in all_crates[crate] if it in all_crates and it not in below]
     used = {it for crate in below for it in all_crates[crate]} - all_crates.keys()
-    return used, {it for libraries in all_crates.values() for it in libraries} - all_crates.keys() - used
+    return used, {it for libraries in all_crates.values() for it in libraries} - all_crates.keys() - used - PARTS_OF_STD
 
 
 def trust_faults(page):

@@ -22,7 +22,8 @@ proved:
   linked.
 - `rt` locks a crate's folder by flock while it works there, and so does this script while it copies out of it. Of the crates below
   it copies only results with a mark, which a finished run left; unfinished work of a crate in its own copy is done again by `rt`.
-- A program and an archive have no known stamp: the mark next to them has their own sum, and with another sum they are made again.
+- A program, an archive and a module have no known stamp: the mark next to them has their own sum, and with another sum they are made
+  again.
 """
 
 import argparse
@@ -62,7 +63,8 @@ class Crate:
         self.sum = ""
         self.out = CRATES / name / "out"
         is_program = (self.folder / "src" / "main.rt").is_file()
-        self.made = name if is_program else f"lib{name}.a" if kind == "staticlib" else f"rlib/{name}.rlib"
+        of_kind = {"staticlib": f"lib{name}.a", "wasm64": f"{name}.wasm"}
+        self.made = name if is_program else of_kind.get(kind, f"rlib/{name}.rlib")
         # next to the result: `rt` clears a library's folder before it makes it again, and `rt ci` keeps only that folder
         self.mark = (self.out / self.made).with_name("proved")
         self.command = ["run", "--", "--version"] if is_program else ["lib"]

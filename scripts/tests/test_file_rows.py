@@ -22,6 +22,7 @@ FILES = {
     "crates/low/proofs/view/Answers.antt": "",
     "crates/low/must-fail/bytes_go_last.edit": "",
     "crates/low/must-fail/a_byte_is_lost.edit": "",
+    "crates/low/wrong/a_byte_is_added.edit": "",
     "crates/high/src/main.rt": "//! The program.\n\nfn main() {}\n",
     "bindings/rust/src/lib.rs": "//! All\n//! calls.\n//!\n//! More.\n",
     "bindings/rust/target/made.rs": "",
@@ -34,6 +35,7 @@ ROWS = [
     "| crates/low/specs/View.antt | What a view shows. | `bytes`, `IsHere` |",
     "| crates/low/proofs/Lemmas.antt | Lemmas on views. | `view-ends` |",
     "| crates/low/must-fail/a_byte_is_lost.edit | A wrong body that the prover refuses. | |",
+    "| crates/low/wrong/a_byte_is_added.edit | A wrong body that the prover refuses. | |",
     "| bindings/rust/src/lib.rs | All calls. |  |",
     "| bindings/c/calls.c | Each call. |  |",
     "| bindings/c/calls.h | What is shared. |  |",
@@ -50,6 +52,7 @@ Bytes of a file.
 | [specs](../crates/low/specs) | `View.antt` |
 | [proofs](../crates/low/proofs) | modules of lemmas: 1 |
 | [must-fail](../crates/low/must-fail) | wrong bodies that the prover refuses: 2 |
+| [wrong](../crates/low/wrong) | wrong bodies that the prover refuses, which `scripts/wrong_bodies.py` tries: 1 |
 
 ## high
 
@@ -95,6 +98,7 @@ CHANGES = [
     (VIEW, None, WHOLE),
     ("crates/low/must-fail/bytes_go_last.edit", None, WHOLE),
     ("crates/low/must-fail/bytes_go_first.edit", "", WHOLE),
+    ("crates/low/wrong/bytes_go_first.edit", "", WHOLE),
     ("crates/low/src/lib.rt", "//! Other.\n", WHOLE),
     ("crates.txt", "high: bytes\nlow: high\n", WHOLE),
     ("crates.txt", "high: low\nlow: bytes\n", MAP),

@@ -26,6 +26,7 @@ FILES = {
     "share/zsh/site-functions/_petool",
     "share/doc/petool/README.md",
     *(f"share/doc/petool/docs/{page}.md" for page in ("C", "FAULTS", "FORMAT", "GUIDE", "JSON", "LIBRARIES", "PROVED")),
+    "share/doc/petool/docs/page.png",
 }
 # what a tree has besides its crates for `make install`
 INSTALLED_FROM = ("Makefile", "VERSION", "HANDLES", "README.md", "docs", "man", "describe", "scripts", "bindings/c")
@@ -67,7 +68,8 @@ class Room(unittest.TestCase):
 
     def make(self, goal, *words, top=TOP):
         folders = [f"O={self.room / 'made'}", f"PREFIX={self.room / 'at'}"]
-        command = ["make", "-C", top, goal, *folders, *words]
+        # no page, unless the words name one
+        command = ["make", "-C", top, goal, *folders, "WEBPAGE=", *words]
         run = subprocess.run(command, env=self.environment, stdout=subprocess.PIPE, stderr=subprocess.STDOUT, text=True)
         self.assertEqual(run.returncode, 0, run.stdout)
 
@@ -97,6 +99,16 @@ class Install(Room):
         self.make("install", f"PROGRAM={PROGRAM}", f"LIBRARY={LIBRARY}")
         self.assertEqual(self.installed(), FILES)
         self.assertEqual((self.room / "at" / "lib" / "libpetool.a").read_bytes(), LIBRARY.read_bytes())
+
+    @unittest.skipUnless(LIBRARY.is_file(), "left out without calls: PETOOL_LIB_DIR has no libpetool.a")
+    def test_the_page_is_installed_and_removed_again(self):
+        page = self.room / "page.html"
+        page.write_text("<!doctype html>")
+        self.make("install", f"PROGRAM={PROGRAM}", f"LIBRARY={LIBRARY}", f"WEBPAGE={page}")
+        self.assertEqual(self.installed(), FILES | {"share/petool/petool.html"})
+        self.assertEqual((self.room / "at/share/petool/petool.html").read_text(), page.read_text())
+        self.make("uninstall")
+        self.assertEqual(self.installed(), set())
 
     @unittest.skipUnless(LIBRARY.is_file(), "left out without calls: PETOOL_LIB_DIR has no libpetool.a")
     def test_other_folders_get_the_files_and_lose_them_again(self):

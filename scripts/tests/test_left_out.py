@@ -12,6 +12,7 @@ BINDINGS = pathlib.Path(__file__).resolve().parents[2] / "bindings"
 TOOLS = "awk cat cksum cut dirname env grep head id make mkdir rm sed sh sort tail tr".split()
 PASSED = "#!/bin/sh\necho '1 passed, 0 failed'\n"
 CARGO = "#!/bin/sh\necho 'test result: ok. 1 passed; 0 failed; 0 ignored'\n"
+NODE = "#!/bin/sh\necho '# pass 1'\necho '# fail 0'\n"
 UNIT = """import os, unittest
 class Test(unittest.TestCase):
     def test_runs(self): pass
@@ -24,6 +25,8 @@ SCRIPTS = (
     "describe/describe.py", "scripts/crates_svg.py", "scripts/file_rows.py", "scripts/docs_check.py",
     "bindings/examples", "program",
 )
+# what `make page` makes
+WEB = ("js/petool32.wasm", "page/petool.html")
 
 
 class LeftOut(unittest.TestCase):
@@ -39,6 +42,9 @@ class LeftOut(unittest.TestCase):
         self.write("top/bindings/python/test_unit.py", UNIT)
         self.write("top/bindings/rust/Cargo.toml", "")
         self.write("tools/cargo", CARGO)
+        self.write("tools/node", NODE)
+        for name in WEB:
+            self.write(f"web/{name}", "")
         # a linked Python would look for its library next to the link
         self.write("tools/python3", f'#!/bin/sh\nexec "{sys.executable}" "$@"\n')
         for name in TOOLS:
@@ -54,6 +60,7 @@ class LeftOut(unittest.TestCase):
         """The status, and what is printed."""
         program = str(self.top / "program")
         environment = {"PATH": str(self.tools), "O": str(self.room / "made"), "PETOOL_PROGRAM": program, "PETOOL_BENCHMARK": program}
+        environment["PETOOL_WEB"] = str(self.room / "web")
         environment.update(variables)
         run = subprocess.run(["sh", self.top / "bindings" / "test", *words], env=environment, capture_output=True, text=True)
         return run.returncode, run.stdout + run.stderr
@@ -71,11 +78,11 @@ class LeftOut(unittest.TestCase):
 
     def test_where_nothing_is_missing_all_is_run(self):
         status, said = self.run_test()
-        self.assertEqual((status, said.splitlines()[-1], "left out" in said), (0, "12 passed, 0 failed", False), said)
+        self.assertEqual((status, said.splitlines()[-1], "left out" in said), (0, "15 passed, 0 failed", False), said)
 
     def test_what_may_be_missing_is_run_where_it_is_there(self):
         status, said = self.run_test("--without", "cargo,mypy", "--without", "program")
-        self.assertEqual((status, said.splitlines()[-1]), (0, "12 passed, 0 failed"), said)
+        self.assertEqual((status, said.splitlines()[-1]), (0, "15 passed, 0 failed"), said)
 
     def test_a_program_that_is_not_there(self):
         line = "what compares with the program: left out without program: there is no /none"
@@ -87,6 +94,12 @@ class LeftOut(unittest.TestCase):
         (self.tools / "cargo").unlink()
         self.assert_left_out("cargo", "Rust: left out without cargo")
 
+    def test_node_or_what_it_runs_that_is_not_there(self):
+        line = "JavaScript and the page: left out without module: `make page` has made none in /none"
+        self.assert_left_out("module", line, PETOOL_WEB="/none")
+        (self.tools / "node").unlink()
+        self.assert_left_out("node", "JavaScript and the page: left out without node")
+
     def test_what_the_part_in_c_lacks(self):
         for lack in ("c++", "valgrind"):
             with self.subTest(lack=lack):
@@ -96,13 +109,13 @@ class LeftOut(unittest.TestCase):
         for lack in ("bash", "mypy"):
             with self.subTest(lack=lack):
                 status, said = self.run_test(SKIPS=f"left out without {lack}")
-                self.assertEqual((status, said.splitlines()[-1]), (1, "10 passed, 2 failed"), said)
+                self.assertEqual((status, said.splitlines()[-1]), (1, "13 passed, 2 failed"), said)
                 status, said = self.run_test("--without", lack, SKIPS=f"left out without {lack}")
                 self.assertEqual((status, said.count(f"skipped 'left out without {lack}'")), (0, 2), said)
 
     def test_a_test_in_python_that_is_skipped_for_another_reason(self):
         status, said = self.run_test(SKIPS="it is slow")
-        self.assertEqual((status, said.splitlines()[-1]), (1, "10 passed, 2 failed"), said)
+        self.assertEqual((status, said.splitlines()[-1]), (1, "13 passed, 2 failed"), said)
 
     def test_python_is_wanted(self):
         (self.tools / "python3").unlink()

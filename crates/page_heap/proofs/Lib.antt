@@ -1,0 +1,5 @@
+pub mod Handed
+pub mod Sizes
+pub mod Units
+pub mod Values
+pub mod Walks
