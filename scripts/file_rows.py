@@ -4,8 +4,8 @@
 file_rows.py [--check | --whole]. A row has the names of the folder's files. That of a crate has what its first page says, and what
 it names in crates.txt; a law has its comment. With --whole nothing is written, and a row is printed for each source, with the
 comment that it begins with and the names that it declares for other files. With --check nothing is written: each source must begin
-with such a comment, and the three pages are compared with what would be written; the last line is 'N passed, M failed', and the
-status is 1 if something is wrong.
+with such a comment, a crate must name each library of its line in crates.txt, and the three pages are compared with what would be
+written; the last line is 'N passed, M failed', and the status is 1 if something is wrong.
 """
 
 import ast
@@ -224,6 +224,14 @@ def comment_fault(path):
     return ""
 
 
+def library_faults(crate):
+    """For each library of a crate's line, that none of its sources names it, or nothing."""
+    sources = [path for part in ("src", "specs", "proofs") for path in (TOP / "crates" / crate / part).rglob("*") if path.is_file()]
+    text = "\n".join(path.read_text() for path in sources)
+    for library in all_named()[crate]:
+        yield "" if re.search(rf"\b{library}(?:::|\.)", text) else f"crates.txt: {crate} does not name {library}"
+
+
 def page_fault(path):
     """How a page differs from what would be written, or nothing."""
     try:
@@ -233,7 +241,8 @@ def page_fault(path):
 
 
 def check():
-    found = [*map(comment_fault, sources()), *map(page_fault, PAGES)]
+    libraries = [fault for crate in crates() for fault in library_faults(crate)]
+    found = [*map(comment_fault, sources()), *libraries, *map(page_fault, PAGES)]
     for sentence in filter(None, found):
         print(sentence)
     failed = sum(map(bool, found))

@@ -17,13 +17,13 @@ FILES = {
     "crates/low/src/view/first.rt": "//! The first byte.\n",
     "crates/low/src/view.rt": "//! [`View`]: one|another.\n\npub struct View {}\n\npub(crate) fn inside() {}\n\nfn own() {}\n",
     "crates/low/specs/Lib.antt": "pub mod View\n",
-    "crates/low/specs/View.antt": "-- What a view\n-- shows.\nuse X\n\nabbrev pub bytes : N\n\n-- whether it is there\npub record IsHere : T where\n",
+    "crates/low/specs/View.antt": "-- What a view\n-- shows.\nuse Rattle.bytes.specs.Bytes.{Bytes}\n\nabbrev pub bytes : N\n\n-- whether it is there\npub record IsHere : T where\n",
     "crates/low/proofs/Lemmas.antt": "-- Lemmas on views.\n\npub view-ends : X\n",
     "crates/low/proofs/view/Answers.antt": "",
     "crates/low/must-fail/bytes_go_last.edit": "",
     "crates/low/must-fail/a_byte_is_lost.edit": "",
     "crates/low/wrong/a_byte_is_added.edit": "",
-    "crates/high/src/main.rt": "//! The program.\n\nfn main() {}\n",
+    "crates/high/src/main.rt": "//! The program.\n\nuse bytes::Bytes;\nuse low::View;\n\nfn main() {}\n",
     "bindings/rust/src/lib.rs": "//! All\n//! calls.\n//!\n//! More.\n",
     "bindings/rust/target/made.rs": "",
     "bindings/c/calls.c": "/*\n * Each\n * call.\n *\n * More.\n */\nint x;\n",
@@ -102,6 +102,7 @@ CHANGES = [
     ("crates/low/src/lib.rt", "//! Other.\n", WHOLE),
     ("crates.txt", "high: bytes\nlow: high\n", WHOLE),
     ("crates.txt", "high: low\nlow: bytes\n", MAP),
+    ("crates/high/src/main.rt", "//! The program.\n\nuse bytes::Bytes;\nuse lows::View;\n", "crates.txt: high does not name low"),
     ("crates/low/src/lib.rt", "//! Other.\n", MAP),
     ("docs/MAP.md", CRATES.replace("`low` | bytes", "`low` | "), MAP),
     ("docs/MAP.md", "# Map\n", "docs/MAP.md: it cannot be written: there are no two comments with crates.txt"),
@@ -155,7 +156,7 @@ class Rows(unittest.TestCase):
         self.assertEqual((status, output[:6], self.page()), (2, "usage:", "old\n"))
 
     def test_a_page_that_was_just_written_passes(self):
-        self.assertEqual(self.run_script("--check"), (0, "13 passed, 0 failed\n"))
+        self.assertEqual(self.run_script("--check"), (0, "16 passed, 0 failed\n"))
 
     def test_each_difference_is_said(self):
         for path, text, said in CHANGES:
@@ -172,7 +173,7 @@ class Rows(unittest.TestCase):
     def test_a_row_too_many_is_said(self):
         (self.top / "docs/FILES.md").write_text(self.page() + "| [gone](../gone) | `gone.py` |\n")
         status, output = self.run_script("--check")
-        self.assertEqual((status, output), (1, f"{WHOLE}\n12 passed, 1 failed\n"))
+        self.assertEqual((status, output), (1, f"{WHOLE}\n15 passed, 1 failed\n"))
 
 
 if __name__ == "__main__":

@@ -1,10 +1,3 @@
-pub mod DelayedLines
 pub mod Exchanging
-pub mod MapLines
-pub mod Mapped
 pub mod RebasedSets
 pub mod RebaseRuns
-pub mod Reported
-pub mod Rows
-pub mod SameSets
-pub mod Unbound

@@ -1,16 +1,2 @@
-pub use Rattle.pe_view.specs.Faults
-pub use Rattle.pe_head.specs.Head
-pub use Rattle.pe_layout.specs.Image
-pub use Rattle.pe_set.specs.Set
-pub use Rattle.pe_set.specs.SetFaults
-pub use Rattle.pe_set.specs.SetView
-pub use Rattle.pe_space.specs.Content
-pub use Rattle.pe_space.specs.SetContent
-pub use Rattle.pe_text.specs.Engine
-pub mod DelayedReport
-pub mod MapReport
 pub mod RebasedSet
 pub mod RebaseRun
-pub mod SameSets
-pub mod SpaceReport
-pub mod UnboundImports

@@ -13,15 +13,9 @@
 //! [`parse_words`] reads the program's command line.
 #![tactic(auto)]
 
-mod delayed_report;
 pub mod laws;
-mod map_lines;
 mod object_sized;
 mod rebasing;
-mod set_report;
-mod space_report;
-mod unbound_imports;
-mod window;
 mod words;
 
 pub use coff_archive_json::archive_json;
@@ -38,7 +32,6 @@ pub use coff_lines::dump_object;
 pub use coff_lines::either_object_text;
 pub use coff_lines::extract_member;
 pub use coff_lines::object_text;
-pub use delayed_report::map_report_delayed;
 pub use object_sized::dump_either_object_sized;
 pub use object_sized::dump_object_sized;
 pub use pe_at::Spot;
@@ -71,6 +64,9 @@ pub use pe_lines::dump_text;
 pub use pe_lines::sum;
 pub use pe_lines::sum_sized;
 pub use pe_lines::sum_text;
+pub use pe_map_lines::map_report;
+pub use pe_map_lines::map_report_delayed;
+pub use pe_map_lines::map_report_unbound;
 pub use pe_page::ShownName;
 pub use pe_page::is_safe_text;
 pub use pe_reach::PartSource;
@@ -125,7 +121,5 @@ pub use rebasing::rebase;
 pub use rebasing::rebase_sized;
 pub use rebasing::rebase_summed;
 pub use rebasing::rebase_summed_sized;
-pub use set_report::map_report;
-pub use set_report::map_report_unbound;
 pub use words::Job;
 pub use words::parse_words;

@@ -4,8 +4,8 @@ use Rattle.pe_set.specs.Set.{Entry}
 use Rattle.pe_set.specs.declared.entry.Policy.{Policy}
 use Rattle.pe_set.specs.declared.entry.Policy.TheVariants.{Strict, Known}
 use Rattle.pe_text.specs.declared.outcome.Outcome.{Outcome}
-use Rattle.pe_tool.specs.MapReport.{IsMapText}
-use Rattle.pe_tool.specs.UnboundImports.{IsUnboundText}
+use Rattle.pe_map_lines.specs.MapReport.{IsMapText}
+use Rattle.pe_map_lines.specs.UnboundImports.{IsUnboundText}
 use Rattle.petool_page.specs.declared.map.EntryRecord.{EntryRecord}
 
 abbrev pub entry_of : EntryRecord → Entry

@@ -13,13 +13,17 @@ ghost use Rattle.petool_page.specs.Sets.{IsReport};
 
 use crate::kind::is_archive;
 use crate::writer::RoomWriter;
+use coff_archive_json::archive_json_text;
+use coff_archive_page::show_archive_text;
+use coff_lines::{archive_text, object_text};
 use page_heap::PageHeap;
+use pe_at::{Spot, at_each_text};
+use pe_json::{Beyond, print_line};
+use pe_lines::{check_text, dump_text};
+use pe_map_lines::{Policy, SetEntry, map_report, map_report_unbound};
+use pe_reach::ViewFile;
+use pe_show::{Page, show_page_text};
 use pe_text::{Outcome, ToolError, write_refusal};
-use pe_tool::{
-    Beyond, Page, Policy, SetEntry, Spot, ViewFile, archive_json_text, archive_text, at_each_text,
-    check_text, dump_text, map_report, map_report_unbound, object_text, print_line,
-    show_archive_text, show_page_text,
-};
 use pe_view::Fault;
 
 /// What an engine answers.

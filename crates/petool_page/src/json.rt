@@ -7,8 +7,8 @@ ghost use Rattle.petool_page.specs.Told.{IsTold};
 use crate::engines::lines_into;
 use crate::writer::RoomWriter;
 use page_heap::{Memory, PageHeap};
+use pe_json::Beyond;
 use pe_text::status;
-use pe_tool::Beyond;
 
 /// What a line tells beyond the tables of the profile: nothing unless it is asked for all.
 fn beyond_of(all: bool, functions: bool, symbols: bool, digests: bool) -> Option<Beyond>

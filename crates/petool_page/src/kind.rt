@@ -3,7 +3,7 @@
 ghost use Rattle.std.specs.Prelude.{◌≡◌};
 ghost use Rattle.petool_page.specs.Pages.{is_archive};
 
-use pe_tool::{FileKind, file_kind};
+use pe_text::{FileKind, file_kind};
 
 /// Whether a file begins as an archive.
 pub(crate) fn is_archive(file: &[u8]) -> bool

@@ -8,8 +8,8 @@ ghost use Rattle.petool_page.specs.Told.{IsTold};
 use crate::engines::report_into;
 use crate::writer::RoomWriter;
 use page_heap::{Memory, PageHeap};
+use pe_map_lines::{Policy, SetEntry};
 use pe_text::{ToolError, status};
-use pe_tool::{Policy, SetEntry};
 use std::alloc::{AllocError, Allocator};
 
 /// An image of a set: the name by which others import from it, its file and its base.

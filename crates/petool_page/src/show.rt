@@ -8,8 +8,9 @@ ghost use Rattle.petool_page.specs.Told.{IsTold};
 use crate::engines::{page_into, spots_into};
 use crate::writer::RoomWriter;
 use page_heap::{Memory, PageHeap};
+use pe_at::Spot;
+use pe_show::{Page, ShowOptions};
 use pe_text::status;
-use pe_tool::{Page, ShowOptions, Spot};
 use pe_view::Place;
 
 /// The options of a page by bits: the number of a bit is that of the table in the order of [`ShowOptions`]. Without colours.

@@ -1,9 +1,0 @@
-use Rattle.pe_tool.proofs.SameSets.{sets_agree, error_agrees, text_follows}
-use Rattle.pe_tool.proofs.laws.same_sets_map_alike.Goals as goal
-
-pub returns : goal.returns
-returns c = λ policy es fs window same.
-    let classes = c.errors_count_class_by_class.ensures in
-    text_follows policy es fs window
-    (error_agrees c.faults_agree.ensures policy (classes.names policy) (classes.files policy) (classes.places policy) (classes.imports policy) es fs same)
-    (sets_agree es fs same)
