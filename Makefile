@@ -47,8 +47,8 @@ petool: $(PROGRAM)
 
 # how many crates are proved at a time: as many as `-j` says
 JOBS = $(or $(patsubst -j%,%,$(filter -j%,$(MAKEFLAGS))),$(if $(filter -j,$(MAKEFLAGS)),$(shell nproc),1))
-# the calls of the library too, unless only the program is made
-WANTED := petool $(if $(filter petool,$(MAKECMDGOALS)),,petool_c)
+# the calls of the library and of the page too, unless only the program is made
+WANTED := petool $(if $(filter petool,$(MAKECMDGOALS)),,petool_c $(if $(filter $(O)/page/petool.html,$(WEBPAGE)),petool_page))
 
 # it is touched, since sources that were only copied or checked out again are newer than the program that was proved from them
 crates/petool/out/petool: $(SOURCES)
@@ -56,9 +56,11 @@ crates/petool/out/petool: $(SOURCES)
 	touch $@
 
 # The page and the package: `rt ci` takes no crate of the kind wasm64, so the module is proved and built in a copy of the sources where
-# the line of petool_page says this in place of staticlib. The copy has the libraries below it, as hard links if it can. Debian's
-# binaryen makes of the module the form for a memory of 32-bit addresses.
+# the line of petool_page says this in place of staticlib. The copy has the libraries below it, as hard links if it can, and what a
+# proof of petool_page for x86-64 left to begin with: most goals are the same. Debian's binaryen makes of the module the form for a
+# memory of 32-bit addresses.
 COPY := $(O)/module
+BEGUN := crates/petool_page/out/incremental
 PAGE_SOURCES := $(wildcard page/*.html page/*.css page/build.py page/src/*.mjs) bindings/js/faults.py describe/faults.txt
 PACKAGE := $(wildcard bindings/js/*.mjs) $(addprefix bindings/js/,petool.d.ts package.json README.md)
 FEATURES := memory64 bulk-memory multivalue mutable-globals nontrapping-float-to-int sign-ext
@@ -74,6 +76,7 @@ $(O)/js/petool64.wasm: $(SOURCES) scripts/prove.py
 	    mkdir -p $(COPY)/$${it%/rlib} || exit; \
 	    cp -al $$it $(COPY)/$$it 2>/dev/null || { rm -rf $(COPY)/$$it && cp -a --reflink=auto $$it $(COPY)/$$it; } || exit; \
 	done
+	if [ -d $(BEGUN) ]; then mkdir -p $(COPY)/crates/petool_page/out && cp -a --reflink=auto $(BEGUN) $(COPY)/$(BEGUN); fi
 	sed 's/^petool_page staticlib:/petool_page wasm64:/' crates.txt > $(COPY)/crates.txt
 	$(COPY)/scripts/prove.py --jobs $(JOBS) petool_page
 	cp $(COPY)/crates/petool_page/out/petool_page.wasm $@
