@@ -44,18 +44,19 @@ export class Helper {
   constructor() {
     this.#worker.onmessage = ({ data }) => this.#hear(data);
     this.#worker.onerror = event => this.#fail(event.message || 'the worker failed');
-    this.#started = engine.then(module => this.#send('start', [module]));
+    this.#started = engine.then(module => this.#send('start', [module], {}));
   }
 
   /**
    * What a call of the worker returns.
    * @param {string} call
    * @param {unknown[]} words
-   * @param {(progress: object) => void} [onProgress]
+   * @param {{ progress?: (progress: unknown) => void, moved?: ArrayBuffer[] }} [options] what is told before it returns, and what of the
+   * words is in the memory of the worker from then on, and no more in that of the page
    */
-  async call(call, words = [], onProgress = () => {}) {
+  async call(call, words = [], options = {}) {
     await this.#started;
-    return this.#send(call, words, onProgress);
+    return this.#send(call, words, options);
   }
 
   /** Ends the worker, whatever it does. */
@@ -64,15 +65,15 @@ export class Helper {
     this.#fail(STOPPED);
   }
 
-  #send(call, words, onProgress) {
+  #send(call, words, { progress, moved = [] }) {
     const id = this.#next++;
     return new Promise((resolve, reject) => {
       if (this.#ended) {
         reject(new CallError({ message: this.#ended }));
         return;
       }
-      this.#waiting.set(id, { resolve, reject, onProgress });
-      this.#worker.postMessage({ id, call, words });
+      this.#waiting.set(id, { resolve, reject, progress });
+      this.#worker.postMessage({ id, call, words }, moved);
     });
   }
 
@@ -82,7 +83,7 @@ export class Helper {
       return;
     }
     if (progress !== undefined) {
-      waits.onProgress(progress);
+      waits.progress?.(progress);
       return;
     }
     this.#waiting.delete(id);

@@ -82,7 +82,7 @@ export class Hex {
       const bytes = await this.#file.bytes(this.#begin, this.#begin + PAGE);
       lines = Array.from({ length: Math.ceil(bytes.length / LINE) }, (_, index) => this.#line(this.#begin + index * LINE, bytes.subarray(index * LINE, (index + 1) * LINE)));
     } catch (error) {
-      lines = [[`The file cannot be read any more: ${error.message}`]];
+      lines = [[error.message]];
     }
     if (asked === this.#asked) {
       this.#box.replaceChildren(...lines.flat());

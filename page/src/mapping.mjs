@@ -5,6 +5,7 @@ import { baseOf, spread } from './bases.mjs';
 import { count, element, some } from './dom.mjs';
 import { Helper } from './helper.mjs';
 import { neededBy } from './needed.mjs';
+import { mapFiles } from './reading.mjs';
 import { Rows } from './rows.mjs';
 import { spacePicture } from './space_picture.mjs';
 
@@ -71,7 +72,7 @@ export class MapView {
     this.#told = null;
     await this.#show(() => {
       const entries = this.#mapped.map(({ session: { blob, name }, base }) => ({ blob, name, base: baseOf(base.value) }));
-      return this.#helper.call('map', [entries, { known: this.#known.checked }]);
+      return mapFiles(this.#helper, entries, { known: this.#known.checked });
     });
   }
 

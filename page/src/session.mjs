@@ -2,6 +2,7 @@
 
 import { Helper } from './helper.mjs';
 import { isObjectFormat, partsOf } from './parts.mjs';
+import { bytesOf, load } from './reading.mjs';
 import { tablesOf } from './tables.mjs';
 
 // so many files are read at a time, and so many keep their bytes in memory: the others are read again when they are asked for
@@ -178,8 +179,8 @@ export class Session {
   }
 
   /** Bytes of the file, which are read without the worker. @param {number} begin @param {number} end */
-  async bytes(begin, end) {
-    return new Uint8Array(await this.blob.slice(begin, end).arrayBuffer());
+  bytes(begin, end) {
+    return bytesOf(this.blob, begin, end);
   }
 
   /** The readable page. @param {string[]} tables */
@@ -188,7 +189,7 @@ export class Session {
   }
 
   /** What a call of the worker returns, which has the file's bytes first. */
-  async #ask(call, words, onProgress) {
+  async #ask(call, words, onProgress = () => {}) {
     if (this.state === 'closed') {
       throw new Error(`${this.name} is closed`);
     }
@@ -209,7 +210,7 @@ export class Session {
   #load(onProgress) {
     const helper = Helper.take();
     this.#helper = helper;
-    this.#loaded = helper.call('load', [this.blob], onProgress);
+    this.#loaded = load(helper, this.blob, onProgress);
     this.#loaded.catch(() => {
       if (this.#helper === helper) {
         this.#release();

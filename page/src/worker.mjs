@@ -15,6 +15,10 @@ const MOST_TEXT_BYTES = 128 * 2 ** 20;
 let module;
 /** @type {OpenedFile} */
 let file;
+/** whether what the headers of the file say is told, as it is of a long one before all of it is read */
+let isHeadTold;
+/** the images that are to be mapped @type {{ name: string, base: bigint, bytes: Uint8Array }[]} */
+let entries;
 /** @type {Space} */
 let space;
 
@@ -29,47 +33,58 @@ function headOf(read) {
 }
 
 /**
- * Reads the file into the memory of its calls, so that it is in memory once.
+ * Puts bytes of the file, which come in order, into the memory of its calls. What its headers say is returned once.
+ * @param {number} at
+ * @param {Uint8Array} bytes
+ */
+function write(at, bytes) {
+  const end = at + bytes.length;
+  file.bytes(at, end).set(bytes);
+  if (isHeadTold || end < HEAD_BYTES) {
+    return undefined;
+  }
+  isHeadTold = true;
+  return headOf(end);
+}
+
+/**
+ * Makes room for the file and reads it, so that it is in memory once. Says how many bytes were there, or nothing if the browser lets
+ * no worker read: then `write` brings them.
  * @param {File} blob
  * @param {(progress: { read: number, head?: object }) => void} tell
  */
 async function load(blob, tell) {
   file = OpenedFile.reserve(module, blob.size, { name: blob.name, mostText: MOST_TEXT_BYTES });
+  isHeadTold = blob.size < LONG_BYTES;
   let read = 0;
   let told = performance.now();
-  let isHeadTold = blob.size < LONG_BYTES;
-  for (const reader = blob.stream().getReader(); ; ) {
-    const { done, value } = await reader.read();
-    if (done) {
-      break;
+  const reader = blob.stream().getReader();
+  for (;;) {
+    const part = await reader.read().catch(() => null);
+    if (!part) {
+      return undefined;
     }
-    file.bytes(read, read + value.length).set(value);
-    read += value.length;
-    if (!isHeadTold && read >= HEAD_BYTES) {
-      isHeadTold = true;
-      tell({ read, head: headOf(read) });
-    } else if (performance.now() - told > PROGRESS_MILLISECONDS) {
+    if (part.done) {
+      return read;
+    }
+    const head = write(read, part.value);
+    read += part.value.length;
+    if (head || performance.now() - told > PROGRESS_MILLISECONDS) {
       told = performance.now();
-      tell({ read });
+      tell({ read, head });
     }
-  }
-  // zeros would stand in place of the rest
-  if (read < blob.size) {
-    throw new Error(`of ${blob.size} bytes only ${read} could be read: the file was changed meanwhile`);
   }
 }
 
 /** The lines of the file, and how much memory it takes with them. */
 const line = () => ({ text: file.json(), memoryBytes: file.memoryBytes });
 
-async function mapped(entries, options) {
-  const size = entries.reduce((sum, { blob }) => sum + blob.size, 0);
+/** Begins a map of images of so many bytes, each of which `image` then brings. */
+function begin(size) {
   if (size > MOST_BYTES) {
     throw new OutOfMemory(`these images have ${Math.ceil(size / 2 ** 20)} MB together, which is more than the ${MOST_BYTES / 2 ** 20} MB that they may have`);
   }
-  const images = await Promise.all(entries.map(async ({ blob, name, base }) => ({ name, base, bytes: new Uint8Array(await blob.arrayBuffer()) })));
-  space = new Space(module, images, options);
-  return toldOf(space);
+  entries = [];
 }
 
 const toldOf = ({ images, bindings, unbound }) => ({ images, bindings, unbound });
@@ -79,11 +94,20 @@ const calls = {
     module = compiled;
   },
   load,
+  write,
   line,
   all: options => file.json({ all: true, ...options }),
   at: (place, as) => file.at(place, { as }),
   show: options => file.show(options),
-  map: mapped,
+  begin,
+  image: entry => {
+    entries.push(entry);
+  },
+  map: options => {
+    space = new Space(module, entries, options);
+    entries = [];
+    return toldOf(space);
+  },
   move: (image, base) => {
     space.move(image, base);
     return toldOf(space);
@@ -95,9 +119,6 @@ function errorOf(error) {
   if (error instanceof Fault) {
     const { number, image, place, subject, rule, values, message } = error;
     return { message, fault: { number, image, place, subject, rule, values } };
-  }
-  if (error instanceof DOMException) {
-    return { message: `the file cannot be read: ${error.message}` };
   }
   return { message: error instanceof OutOfMemory ? error.message : `petool failed: ${error.message}` };
 }
