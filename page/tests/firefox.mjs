@@ -3,13 +3,11 @@
 import { spawn } from 'node:child_process';
 import { writeFileSync } from 'node:fs';
 import { connect } from 'node:net';
-import { join, resolve } from 'node:path';
-import { Browser, SIZE } from './browser.mjs';
-
-const ELEMENT = 'element-6066-11e4-a52e-4f735466cecf';
+import { join } from 'node:path';
+import { DrivenBrowser } from './webdriver.mjs';
 
 /** A window of a browser that was started for it. */
-export class Firefox extends Browser {
+export class Firefox extends DrivenBrowser {
   #process;
   #socket;
   #next = 1;
@@ -20,9 +18,8 @@ export class Firefox extends Browser {
   static async open(program, url) {
     const browser = new Firefox('firefox');
     await browser.#start(program);
-    await browser.send('WebDriver:NewSession', {});
-    await browser.send('WebDriver:SetWindowRect', SIZE);
-    await browser.go(url);
+    await browser.send('NewSession');
+    await browser.begin(url);
     return browser;
   }
 
@@ -56,12 +53,17 @@ export class Firefox extends Browser {
         const [, id, error, result] = told;
         const waits = this.#waiting.get(id);
         this.#waiting.delete(id);
-        (error ? waits.reject : waits.resolve)(error ? new Error(`${error.error}: ${error.message}`) : result);
+        (error ? waits.reject : waits.resolve)(error ? new Error(`${error.error}: ${error.message}`) : (result?.value ?? result));
       }
     }
   }
 
-  send(name, parameters = {}) {
+  /** What a command of WebDriver gives. @param {string} command @param {object} parameters */
+  send(command, parameters = {}) {
+    return this.#write(`WebDriver:${command}`, parameters);
+  }
+
+  #write(name, parameters) {
     return new Promise((yes, no) => {
       const id = this.#next++;
       this.#waiting.set(id, { resolve: yes, reject: no });
@@ -70,67 +72,8 @@ export class Firefox extends Browser {
     });
   }
 
-  async go(url) {
-    await this.#listen();
-    await this.send('WebDriver:Navigate', { url });
-    await this.#listen();
-  }
-
-  /** Takes over what went wrong in the page, and hears of what does from now on. */
-  async #listen() {
-    this.errors.push(...await this.ask(`(() => {
-      const told = (window.testErrors ?? []).splice(0);
-      if (!window.testErrors) {
-        window.testErrors = [];
-        for (const [kind, words] of [['error', ({ message }) => message], ['unhandledrejection', ({ reason }) => String(reason)], ['securitypolicyviolation', ({ blockedURI }) => 'blocked: ' + blockedURI]]) {
-          window.addEventListener(kind, event => window.testErrors.push(words(event)));
-        }
-      }
-      return told;
-    })()`));
-  }
-
-  /** What went wrong in the page. */
-  async failures() {
-    await this.#listen();
-    return this.errors;
-  }
-
-  /** What the page that is shown asked of the network. */
-  requested() {
-    return this.ask('performance.getEntriesByType("resource").map(({ name }) => name)');
-  }
-
-  /** What an expression of the page gives, also if that is a promise. */
-  async ask(expression) {
-    const script = `const told = arguments[arguments.length - 1]; (async () => (${expression}))().then(value => told({ value }), error => told({ error: String(error) }));`;
-    const { value } = await this.send('WebDriver:ExecuteAsyncScript', { script, args: [], scriptTimeout: 60_000, newSandbox: false });
-    if (value?.error) {
-      throw new Error(value.error);
-    }
-    return value?.value;
-  }
-
-  /** Drops files: they are chosen in an element of the test, and the page gets the event of a drop that carries them. */
-  async drop(files) {
-    await this.ask("(() => { const input = document.createElement('input'); input.type = 'file'; input.multiple = true; input.id = 'test-input'; document.body.append(input); })()");
-    const { value } = await this.send('WebDriver:FindElement', { using: 'css selector', value: '#test-input' });
-    await this.send('WebDriver:ElementSendKeys', { id: value[ELEMENT], text: files.map(file => resolve(file)).join('\n') });
-    await this.ask(`(() => {
-      const input = document.getElementById('test-input');
-      const carried = new DataTransfer();
-      for (const file of input.files) carried.items.add(file);
-      input.remove();
-      for (const type of ['dragenter', 'dragover', 'drop']) document.body.dispatchEvent(new DragEvent(type, { dataTransfer: carried, bubbles: true, cancelable: true }));
-    })()`);
-  }
-
-  async shot() {
-    return Buffer.from((await this.send('WebDriver:TakeScreenshot', { full: false })).value, 'base64');
-  }
-
   async close() {
-    await this.end(this.#process, () => this.send('Marionette:Quit', { flags: ['eForceQuit'] }).catch(() => {}));
+    await this.end(this.#process, () => this.#write('Marionette:Quit', { flags: ['eForceQuit'] }).catch(() => {}));
     this.#socket.destroy();
   }
 }

@@ -1,6 +1,6 @@
-// Tests of the page in headless browsers, with files that are dropped on it. PETOOL_PAGE names the page; CHROMIUM and FIREFOX the
-// browsers, PETOOL_PROGRAM the program that it is compared with, PETOOL_DLLS folders with DLLs, and PETOOL_SHOTS a folder for
-// screenshots. What is missing is named, and what needs it left out.
+// Tests of the page in browsers without a window, with files that are dropped on it. PETOOL_PAGE names the page; CHROMIUM and FIREFOX
+// these browsers, WEBKIT the driver of WebKit, PETOOL_PROGRAM the program that it is compared with, PETOOL_DLLS folders with DLLs, and
+// PETOOL_SHOTS a folder for screenshots. What is missing is named, and what needs it left out.
 
 import assert from 'node:assert/strict';
 import { execFileSync } from 'node:child_process';
@@ -11,6 +11,7 @@ import { after, before, describe, test } from 'node:test';
 import { fileURLToPath, pathToFileURL } from 'node:url';
 import { Chromium } from './chromium.mjs';
 import { Firefox } from './firefox.mjs';
+import { WebKit } from './webkit.mjs';
 
 const { PETOOL_PAGE: PAGE, PETOOL_PROGRAM: PROGRAM, PETOOL_SHOTS: SHOTS } = process.env;
 const FOLDERS = (process.env.PETOOL_DLLS ?? '').split(':').filter(Boolean);
@@ -151,7 +152,7 @@ function archiveOf(names) {
 
 const withoutRelocations = ({ relocations, ...section }) => (relocations ? { ...section, relocations: relocations.length } : section);
 
-for (const [Browser, program] of [[Chromium, process.env.CHROMIUM], [Firefox, process.env.FIREFOX]]) {
+for (const [Browser, program] of [[Chromium, process.env.CHROMIUM], [Firefox, process.env.FIREFOX], [WebKit, process.env.WEBKIT]]) {
   const browserName = Browser.name.toLowerCase();
   describe(browserName, program ? {} : { skip: `left out without ${browserName}` }, () => {
     let browser;

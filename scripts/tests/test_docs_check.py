@@ -54,7 +54,7 @@ NAMED = [
     (TESTS, "`bindings/rust` |", "`bindings/rusts` |", f"{TESTS}: there is no test bindings/rusts"),
 ]
 COMMAND = [
-    (README, "bindings/test --without mypy,llvm,mingw,libwine,chromium,firefox,module\n", "bindings/test\n", f"{README}: it does not name the test command of .ci/run"),
+    (README, "bindings/test --without mypy,llvm,mingw,libwine,chromium,firefox,webkit,module\n", "bindings/test\n", f"{README}: it does not name the test command of .ci/run"),
     (".ci/run", "rt ci && ", "rt all test && ", f"{GUIDE}: it does not name the test command of .ci/run, which is rt all test && "),
 ]
 VERSIONS = [
