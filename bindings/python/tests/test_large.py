@@ -42,7 +42,7 @@ def line(number, place, image=0):
     return b"fault %d image %d file 0x%08x\n" % (number, image, place)
 
 
-@unittest.skipUnless(PROGRAM, "PETOOL_PROGRAM names no program")
+@unittest.skipUnless(PROGRAM, "left out without program: PETOOL_PROGRAM names none")
 class Large(unittest.TestCase):
     """The program over files in a folder of their own."""
 

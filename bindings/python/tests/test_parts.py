@@ -89,7 +89,7 @@ def with_tables(elsewhere: frozenset[str] = frozenset(), rva_of=None, many: int 
     return image(bytes(sections[TABLES]), bytes(sections[OTHER]), directories, many, **options)
 
 
-@unittest.skipUnless(PROGRAM, "PETOOL_PROGRAM names no program")
+@unittest.skipUnless(PROGRAM, "left out without program: PETOOL_PROGRAM names none")
 class Parts(unittest.TestCase):
     """The program over files in a folder of their own."""
 

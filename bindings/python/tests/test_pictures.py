@@ -58,7 +58,7 @@ SHOWN = image(tree([
 ]))
 
 
-@unittest.skipUnless(PROGRAM, "PETOOL_PROGRAM is not set")
+@unittest.skipUnless(PROGRAM, "left out without program: PETOOL_PROGRAM names none")
 class Pictures(unittest.TestCase):
     maxDiff = None
 

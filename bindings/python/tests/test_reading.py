@@ -77,7 +77,7 @@ def string_table(*strings):
     return numbers(4 + len(body)) + body
 
 
-@unittest.skipUnless(PROGRAM, "PETOOL_PROGRAM names no program")
+@unittest.skipUnless(PROGRAM, "left out without program: PETOOL_PROGRAM names none")
 class Reading(unittest.TestCase):
     """The program over files in a folder of their own."""
 
