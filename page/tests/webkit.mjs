@@ -31,7 +31,11 @@ export class WebKit extends DrivenBrowser {
     const port = 40_000 + (process.pid % 20_000);
     // the display says its number as soon as it can be used
     this.#display = spawn('Xvfb', ['-displayfd', '3', '-nolisten', 'tcp', '-screen', '0', SCREEN], { stdio: ['ignore', 'ignore', 'ignore', 'pipe'] });
-    const [number] = await once(this.#display.stdio[3], 'data');
+    const ended = once(this.#display, 'exit').then(() => {
+      throw new Error('Xvfb shows nothing');
+    });
+    ended.catch(() => {});
+    const [number] = await Promise.race([once(this.#display.stdio[3], 'data'), ended]);
     const environment = { ...process.env, DISPLAY: `:${String(number).trim()}`, HOME: this.profile, XDG_RUNTIME_DIR: this.profile };
     this.#process = spawn(program, [`--port=${port}`], { stdio: 'ignore', env: environment });
     this.#base = `http://127.0.0.1:${port}`;
