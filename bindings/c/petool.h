@@ -601,7 +601,7 @@ enum {
 enum {
     PETOOL_FIT_NO = 0,     /* that of other bytes */
     PETOOL_FIT_YES = 1,    /* that of the file */
-    PETOOL_FIT_UNKNOWN = 2 /* not compared: it is absent, not computed here, or the file has no bytes that a signature signs */
+    PETOOL_FIT_UNKNOWN = 2 /* not compared: it is absent, not computed here, or what a signature signs is ambiguous */
 };
 
 typedef struct petool_signature {
@@ -634,8 +634,9 @@ typedef struct petool_digest {
 /* end of describe/records.txt */
 
 /* The digest that a signature of the file is to sign, by PETOOL_DIGEST_SHA1 to SHA512: of the file without CheckSum, the entry
- * of directory 4 and the certificate table. OK; FAULT, with one of 1 to 12; ARGUMENT for another algorithm; or ABSENT if that
- * table passes the file, or begins before the end of the entry. */
+ * of directory 4 and the certificate table. OK; FAULT, with one of 1 to 12; ARGUMENT for another algorithm; or ABSENT if what a
+ * signature signs is ambiguous: if raw data do not follow the headers without a gap or an overlap, or that table is not after
+ * them at the end of the file. */
 PETOOL_WARN_UNUSED uint32_t petool_authenticode_digest(const uint8_t *file, size_t len, uint32_t algorithm, petool_digest *digest,
                                                        petool_fault *fault);
 
@@ -705,7 +706,7 @@ typedef struct petool_overlay_range {
  * FAULT, with one of 1 to 12. */
 PETOOL_WARN_UNUSED uint32_t petool_overlay(const uint8_t *file, size_t len, petool_overlay_range *overlay, petool_fault *fault);
 
-/* The findings on the certificate table (221 to 224) and on the Rich header (241), at most five, by number. OK; SMALL; or FAULT,
+/* The findings on the certificate table (221 to 225) and on the Rich header (241), at most six, by number. OK; SMALL; or FAULT,
  * with one of 1 to 12. */
 PETOOL_WARN_UNUSED uint32_t petool_trust_findings(const uint8_t *file, size_t len, petool_fault *rows, size_t room, size_t *count,
                                                   petool_fault *fault);

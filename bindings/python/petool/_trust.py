@@ -40,7 +40,7 @@ _OVERLAY_OTHER = 10  #: something else
 # from describe/records.txt: fits
 _FIT_NO = 0  #: that of other bytes
 _FIT_YES = 1  #: that of the file
-_FIT_UNKNOWN = 2  #: not compared: it is absent, not computed here, or the file has no bytes that a signature signs
+_FIT_UNKNOWN = 2  #: not compared: it is absent, not computed here, or what a signature signs is ambiguous
 # end of describe/records.txt
 
 
@@ -189,8 +189,8 @@ class TrustOfFile(OfFile):
     def authenticode_digest(self, algorithm: str = "sha256") -> Optional[bytes]:
         """The digest of the file that a signature of it is to sign, by "sha1", "sha256", "sha384" or "sha512".
 
-        None if the certificate table passes the file, or begins before the end of its entry in the directories. ValueError for
-        another algorithm.
+        None if what a signature signs is ambiguous: if raw data do not follow the headers without a gap or an overlap, or the
+        certificate table is not after them at the end of the file. ValueError for another algorithm.
         """
         if algorithm not in _ALGORITHMS:
             raise ValueError(f"the algorithm {algorithm!r} is none of {', '.join(_ALGORITHMS)}")
@@ -241,5 +241,5 @@ class Trust(TrustOfFile):
 
     @property
     def findings(self) -> Tuple[Finding, ...]:
-        """The rules of the certificate table and of the Rich header that are broken, by number: 221 to 224, and 241."""
+        """The rules of the certificate table and of the Rich header that are broken, by number: 221 to 225, and 241."""
         return _tables.findings_by(lambda *rows: self._ask(library.petool_trust_findings, *rows))

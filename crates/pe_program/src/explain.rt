@@ -337,7 +337,7 @@ static EXPLAINED: [Explained; 72] = [
 ];
 
 /// All findings, by number.
-static FINDINGS_EXPLAINED: [Explained; 72] = [
+static FINDINGS_EXPLAINED: [Explained; 73] = [
     (
         101,
         Some(
@@ -661,6 +661,13 @@ static FINDINGS_EXPLAINED: [Explained; 72] = [
         224,
         None,
         "a signature that was appended by a tool that does not pad the file",
+    ),
+    (
+        225,
+        Some(
+            "A signature is to sign the headers, the raw data of each section, and what comes after them but for the certificate table. In such a file that would be bytes twice or not at all, or a part of the table, and programs differ in what they take.",
+        ),
+        "files made to load code that is not what was signed, or a file to which data was appended after it was signed",
     ),
     (
         241,

@@ -18,7 +18,7 @@ use pe_trust::{certificate_findings, check_sum, rich_finding};
 use pe_view::Fault;
 
 /// The findings on an image's certificates and its Rich header, each in its place if its rule is broken.
-pub type TrustFindings = [Option<Fault>; 5];
+pub type TrustFindings = [Option<Fault>; 6];
 
 /// The most bytes that a file may have.
 const LARGEST: u64 = 1 << 32;
@@ -77,15 +77,16 @@ fn write_check_sum<W: Sink>(text: &mut TextWriter<W>, field: u32, computed: u32)
 /// The findings on an image's certificates and its Rich header, if the options select this part.
 pub fn trust_findings(options: &ShowOptions, file: ViewFile, headers: &Headers) -> TrustFindings {
     if !is_shown(options, file) {
-        return [None; 5];
+        return [None; 6];
     }
     let bytes = file.beginning();
-    let [first, second, third, fourth] = certificate_findings(0, bytes, headers);
+    let [first, second, third, fourth, fifth] = certificate_findings(0, bytes, headers);
     [
         first,
         second,
         third,
         fourth,
+        fifth,
         rich_finding(0, bytes, headers),
     ]
 }

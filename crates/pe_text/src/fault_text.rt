@@ -311,7 +311,7 @@ static RULES: [(u16, &str, &str); 72] = [
 ];
 
 /// The words of each finding, as [`RULES`] has those of faults.
-static FINDING_RULES: [(u16, &str, &str); 72] = [
+static FINDING_RULES: [(u16, &str, &str); 73] = [
     (
         101,
         "debug directory",
@@ -561,6 +561,11 @@ static FINDING_RULES: [(u16, &str, &str); 72] = [
         224,
         "directory 4",
         "the certificate table does not begin at a multiple of 8",
+    ),
+    (
+        225,
+        "directory 4",
+        "there is no digest, since raw data leave a gap or overlap, or the certificate table is not after them at the end of the file",
     ),
     (241, "Rich", "no DanS begins the Rich header before it"),
     (

@@ -1,4 +1,9 @@
 pub mod Sums
+pub mod Flat
+pub mod Signed
+pub mod Kept
+pub mod Once
+pub mod Within
 pub mod Words
 pub mod Outside
 pub mod OneEntry

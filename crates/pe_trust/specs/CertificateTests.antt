@@ -1,5 +1,5 @@
 -- The rules of the certificate table, in the order of its findings.
-use Rattle.std.specs.Prelude.{ℕ, zero, suc, ◌+◌, ◌-◌, ◌%◌, ◌==◌, ◌&&◌, ◌||◌, Bool, not, min, nat_lt, List, [], ◌∷◌, length, map, Option, None, Some, slice_get, if◌then◌else◌}
+use Rattle.std.specs.Prelude.{ℕ, zero, suc, ◌+◌, ◌-◌, ◌%◌, ◌==◌, ◌&&◌, ◌||◌, Bool, not, min, nat_lt, List, [], ◌∷◌, length, map, Option, None, Some, is_none, slice_get, if◌then◌else◌}
 use Rattle.std.specs.List.{list_any}
 use Rattle.pe_view.specs.Faults.{Test, test}
 use Rattle.pe_view.specs.declared.fault.Fault.{Fault}
@@ -8,7 +8,7 @@ use Rattle.pe_head.specs.declared.directory.Directory.{Directory}
 use Rattle.pe_head.specs.declared.headers.Headers.{Headers}
 use Rattle.pe_head.specs.declared.section.SectionHeader.{SectionHeader}
 use Rattle.pe_trust.specs.Certificates.{is_whole, next_of}
-use Rattle.pe_trust.specs.SignedBytes.{directory_place}
+use Rattle.pe_trust.specs.SignedBytes.{authenticode_bytes, directory_place}
 
 -- where the first entry is that does not lie whole before the end, after at most so many that do
 abbrev pub stop_from : List ℕ → ℕ → ℕ → ℕ → ℕ
@@ -39,6 +39,7 @@ table_tests number file h t stop =
     ∷ test 222 number (File stop) (nat_lt stop (whole_end file t))
     ∷ test 223 number (File (directory_place h)) (overlaps h t)
     ∷ test 224 number (File (directory_place h)) (not (t.rva % 8 == 0))
+    ∷ test 225 number (File (directory_place h)) (is_none (authenticode_bytes file h))
     ∷ []
 
 -- the finding of a rule, if it is broken
@@ -47,7 +48,7 @@ finding t = if t.stands then Some t.fault else None
 
 -- the finding of each rule in order; a table without bytes has none
 abbrev pub no_findings : List (Option Fault)
-no_findings = None ∷ None ∷ None ∷ None ∷ []
+no_findings = None ∷ None ∷ None ∷ None ∷ None ∷ []
 
 abbrev pub findings_by : ℕ → List ℕ → Headers → Option Directory → List (Option Fault)
 findings_by number file h None = no_findings

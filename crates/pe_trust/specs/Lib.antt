@@ -5,6 +5,7 @@ pub use Rattle.pe_head.specs.Head
 pub mod CertificateTests
 pub mod Certificates
 pub mod CheckSum
+pub mod Covered
 pub mod Der
 pub mod DerView
 pub mod Digests

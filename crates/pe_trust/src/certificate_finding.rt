@@ -7,7 +7,7 @@ ghost use Rattle.pe_view.specs.View.{bytes_of, size_of};
 ghost use Rattle.pe_trust.specs.CertificateTests.{certificate_findings_of, finding, overlaps, shares, stop_of, table_end, table_tests, whole_end};
 
 use crate::entries::{entry_at, padded};
-use crate::signed_bytes::entry_place;
+use crate::signed_bytes::{entry_place, gaps_if_unambiguous};
 use pe_head::{Directory, Headers, SectionHeader, directory_index};
 use pe_view::{Fault, Place, View};
 
@@ -61,7 +61,7 @@ fn finding(number: u16, image: u16, offset: u64, stands: bool) -> Option<Fault>
 }
 
 /// The findings of a table that has bytes.
-fn table_findings(image: u16, file: View, headers: &Headers, table: Directory) -> [Option<Fault>; 4]
+fn table_findings(image: u16, file: View, headers: &Headers, table: Directory) -> [Option<Fault>; 5]
     ensures { result ≡ map finding (table_tests image (bytes_of file.entry) headers.now table (stop_of (bytes_of file.entry) (whole_end (bytes_of file.entry) table) table.rva)) }
 {
     let entry = entry_place(headers.pe_offset, headers.magic);
@@ -72,12 +72,18 @@ fn table_findings(image: u16, file: View, headers: &Headers, table: Directory) -
         finding(222, image, stop, stop < end.min(file.len())),
         finding(223, image, entry, overlaps(headers, table)),
         finding(224, image, entry, table.rva % 8 != 0),
+        finding(
+            225,
+            image,
+            entry,
+            gaps_if_unambiguous(file.len(), headers).is_none(),
+        ),
     ]
 }
 
-/// The findings 221 to 224 of an image's certificate table, of which directory 4 holds the file offset and the size, each in its place
+/// The findings 221 to 225 of an image's certificate table, of which directory 4 holds the file offset and the size, each in its place
 /// if its rule is broken; `image` is the number that the caller gives the image. A table without bytes has none.
-pub fn certificate_findings(image: u16, file: View, headers: &Headers) -> [Option<Fault>; 4]
+pub fn certificate_findings(image: u16, file: View, headers: &Headers) -> [Option<Fault>; 5]
     ensures { result ≡ certificate_findings_of image (bytes_of file.entry) headers.now }
 {
     match headers
@@ -86,6 +92,6 @@ pub fn certificate_findings(image: u16, file: View, headers: &Headers) -> [Optio
         .get(directory_index::CERTIFICATE)
     {
         Some(table) if table.size != 0 => table_findings(image, file, headers, *table),
-        _ => [None; 4],
+        _ => [None; 5],
     }
 }

@@ -64,7 +64,6 @@ fn sha1_of(parts: &Parts) -> [u8; 20]
     hasher.update(parts.first);
     hasher.update(parts.second);
     hasher.update(parts.third);
-    hasher.update(parts.last);
     hasher.finalize()
 }
 
@@ -76,12 +75,15 @@ fn sha2_of<D: Digest>(parts: &Parts) -> D::Output
     hasher.update(parts.first);
     hasher.update(parts.second);
     hasher.update(parts.third);
-    hasher.update(parts.last);
     hasher.finalize()
 }
 
 /// The SHA-1 digest that a signature of an image's file is to have: of the file without CheckSum, the entry of directory 4, and the
-/// certificate table. `None` where that table passes the file, or begins before the end of the entry.
+/// certificate table ("Windows Authenticode Portable Executable Signature Format", Calculating the PE Image Hash).
+///
+/// `None` if that is not what the text's rule hashes: if the entry is not in the headers, raw data do not follow the headers without a gap
+/// or an overlap, or the certificate table is not after them at the end of the file. So what is loaded of a file that has a digest comes
+/// from before the certificate table.
 pub fn authenticode_sha1(file: View, headers: &Headers) -> Option<[u8; 20]>
     ensures { result ≡ option_map sha1 (authenticode_bytes (bytes_of file.entry) headers.now) }
 {
@@ -123,8 +125,8 @@ impl<'a> SignedDigest<'a> {
         algorithm_of(self.algorithm)
     }
 
-    /// Whether the digest is that of an image's file. `None` where the algorithm is none of those here, or the file has no bytes that a
-    /// signature signs, as for [`authenticode_sha256`]. Whether the signature is valid is another question, which is not asked.
+    /// Whether the digest is that of an image's file. `None` where the algorithm is none of those here, or what a signature signs is
+    /// ambiguous, as for [`authenticode_sha256`]. Whether the signature is valid is another question, which is not asked.
     pub fn fits(&self, file: View, headers: &Headers) -> Option<bool>
         ensures { result ≡ fits_of (signed_view self.now) (authenticode_bytes (bytes_of file.entry) headers.now) }
     {

@@ -25,6 +25,7 @@ pub mod laws;
 mod name;
 mod overlay;
 mod overlay_data;
+mod raw_data;
 mod rich;
 mod rich_pairs;
 mod rich_rule;

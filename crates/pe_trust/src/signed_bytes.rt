@@ -1,16 +1,17 @@
 //! `signed_parts`: the bytes of an image's file that an Authenticode signature signs.
 
-ghost use Rattle.std.specs.Prelude.{◌≡◌, ◌+◌, ◌^◌, ◌<◌, option_map, slice_get};
+ghost use Rattle.std.specs.Prelude.{◌≡◌, ◌+◌, ◌^◌, ◌<◌, option_map, slice_get, None, Some, if◌then◌else◌};
 ghost use Rattle.pe_view.specs.View.{bytes_of, size_of};
 ghost use Rattle.pe_head.specs.Optional.{fixed_size_of};
-ghost use Rattle.pe_trust.specs.SignedBytes.{Gaps, gaps_of, gaps_by, check_sum_place, directory_place, message_of, authenticode_bytes, gaps_view, parts_view};
+ghost use Rattle.pe_trust.specs.SignedBytes.{Gaps, ascending_sections, authenticode_bytes, check_sum_place, directory_place, gaps_by, gaps_in, gaps_of, gaps_view, is_unambiguous, parts_view};
 
+use crate::raw_data::raw_data_end;
 use pe_head::{Directory, Headers, Magic, directory_index};
 use pe_view::View;
 
 /// What a signature leaves out behind CheckSum, by file offsets: the entry of directory 4, and the certificate table.
 #[derive(Clone, Copy)]
-struct LeftOut {
+pub(crate) struct LeftOut {
     entry: u64,
     entry_end: u64,
     table: u64,
@@ -23,7 +24,6 @@ pub(crate) struct Parts<'a> {
     pub(crate) first: &'a [u8],
     pub(crate) second: &'a [u8],
     pub(crate) third: &'a [u8],
-    pub(crate) last: &'a [u8],
 }
 
 /// Where the entry of directory 4 stands in the file.
@@ -77,24 +77,36 @@ fn left_out(len: u64, headers: &Headers) -> LeftOut
     left_out_by(len, entry_place(headers.pe_offset, headers.magic), *table)
 }
 
+/// What is left out behind CheckSum of a file of some bytes, or `None` if what a signature signs is ambiguous: if the entry of directory 4
+/// is not in the headers, raw data do not follow the headers without a gap or an overlap, or the certificate table is not behind them at
+/// the end of the file.
+pub(crate) fn gaps_if_unambiguous(len: u64, headers: &Headers) -> Option<LeftOut>
+    ensures { option_map gaps_view result ≡ if is_unambiguous len headers.now (gaps_in len headers.now) (ascending_sections headers.now)
+        then Some (gaps_in len headers.now) else None }
+{
+    let gaps = left_out(len, headers);
+    let end = raw_data_end(headers)?;
+    if gaps.entry_end > u64::from(headers.size_of_headers)
+        || end > gaps.table
+        || gaps.table_end != len
+    {
+        return None;
+    }
+    Some(gaps)
+}
+
 /// The bytes that a signature of an image's file signs: the file without CheckSum, the entry of directory 4, and the certificate table.
-/// `None` where that table passes the file, or begins before the end of the entry.
+/// `None` if what a signature signs is ambiguous.
 pub(crate) fn signed_parts<'a>(file: View<'a>, headers: &Headers) -> Option<Parts<'a>>
     ensures { option_map parts_view result ≡ authenticode_bytes (bytes_of file.entry) headers.now }
 {
-    let gaps = left_out(file.len(), headers);
+    let gaps = gaps_if_unambiguous(file.len(), headers)?;
     let field = u64::from(headers.pe_offset) + 88;
-    if gaps.entry_end > gaps.table || gaps.table_end > file.len() {
-        return None;
-    }
     Some(Parts {
         first: file.slice(0, field).unwrap(),
         second: file.slice(field + 4, gaps.entry - (field + 4)).unwrap(),
         third: file
             .slice(gaps.entry_end, gaps.table - gaps.entry_end)
-            .unwrap(),
-        last: file
-            .slice(gaps.table_end, file.len() - gaps.table_end)
             .unwrap(),
     })
 }

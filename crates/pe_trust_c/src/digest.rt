@@ -90,8 +90,7 @@ fn some_record<const N: usize>(digest: Option<[u8; N]>) -> Option<DigestRecord>
     }
 }
 
-/// The digest by an algorithm of what a signature of an image's file signs. `None` if its certificate table passes the file, or begins
-/// before the end of its entry in the directories.
+/// The digest by an algorithm of what a signature of an image's file signs. `None` if that is ambiguous.
 fn file_digest(algorithm: DigestAlgorithm, file: View, headers: &Headers) -> Option<DigestRecord>
     ensures { result ≡ own_record algorithm (bytes_of file.entry) headers.now }
 {

@@ -18,11 +18,18 @@ use pe_trust::{certificate_findings, rich_finding};
 use pe_view::{Fault, View};
 
 /// The findings, each in its place if its rule is broken.
-pub(crate) fn findings_in(file: View, headers: &Headers) -> [Option<Fault>; 5]
+pub(crate) fn findings_in(file: View, headers: &Headers) -> [Option<Fault>; 6]
     ensures { result ≡ certificate_findings_of 0 (bytes_of file.entry) headers.now ++ rich_finding_of 0 (bytes_of file.entry) headers.now.pe_offset ∷ [] }
 {
-    let [first, second, third, fourth] = certificate_findings(0, file, headers);
-    [first, second, third, fourth, rich_finding(0, file, headers)]
+    let [first, second, third, fourth, fifth] = certificate_findings(0, file, headers);
+    [
+        first,
+        second,
+        third,
+        fourth,
+        fifth,
+        rich_finding(0, file, headers),
+    ]
 }
 
 /// Stores a finding behind `count` others, if there is one and room for it, and returns how many there are then.
@@ -44,21 +51,21 @@ fn put_finding(rows: &mut [FaultRecord], count: usize, finding: Option<Fault>) -
 pub(crate) fn put_findings(
     rows: &mut [FaultRecord],
     start: usize,
-    found: &[Option<Fault>; 5],
+    found: &[Option<Fault>; 6],
 ) -> usize
-    requires { start + 5 < 2 ^ 64 }
+    requires { start + 6 < 2 ^ 64 }
     ensures rows { (done : List Fault) (initial : List FaultRecord) → length done ≡ start → rows.old ≡ filled fault_record done initial
         → rows.new ≡ filled fault_record (done ++ present found.now) initial }
     ensures count { result ≡ start + length (present found.now) }
 {
     let mut count = start;
-    for index in 0..5usize {
+    for index in 0..6usize {
         count = put_finding(rows, count, found[index]);
     }
     count
 }
 
-/// Reports the findings 221 to 224 and 241 of an image's file: fills the rows, counts the findings, and returns the status, 0 or 4.
+/// Reports the findings 221 to 225 and 241 of an image's file: fills the rows, counts the findings, and returns the status, 0 or 4.
 pub fn tell_trust_findings(
     file: View,
     headers: &Headers,

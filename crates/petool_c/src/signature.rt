@@ -38,8 +38,9 @@ pub extern "C" fn petool_authenticode<'a>(
 /// The digest of an image's file that a signature of it is to sign: of the file without CheckSum, the entry of directory 4, and the
 /// certificate table. The algorithm is 1 SHA-1, 2 SHA-256, 3 SHA-384 or 4 SHA-512.
 ///
-/// The status is 0; 5 if the algorithm is none of these; 1 with the first of faults 1 to 12; or 3 if the certificate table passes the
-/// file, or begins before the end of its entry in the directories. All but 0 leave the record unchanged. Allocates nothing.
+/// The status is 0; 5 if the algorithm is none of these; 1 with the first of faults 1 to 12; or 3 if what a signature signs is ambiguous:
+/// if raw data do not follow the headers without a gap or an overlap, or the table is not after them at the end of the file. All but 0
+/// leave the record unchanged. Allocates nothing.
 #[unsafe(no_mangle)]
 pub extern "C" fn petool_authenticode_digest(
     file: &[u8],

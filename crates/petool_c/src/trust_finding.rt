@@ -11,7 +11,7 @@ use pe_trust_c::file::file_headers;
 use pe_trust_c::finding::tell_trust_findings;
 use pe_view::View;
 
-/// Reads the findings on the certificate table (221 to 224) and on the Rich header (241) of an image's file, at most five, into the
+/// Reads the findings on the certificate table (221 to 225) and on the Rich header (241) of an image's file, at most six, into the
 /// caller's rows, by number. They need the headers alone, so that they are told also of an image whose sections have faults.
 ///
 /// The status is 0; 4 if there are more findings than rows, which then hold the first of them; or 1 with the first of faults 1 to 12.

@@ -111,7 +111,7 @@ pub const PETOOL_DIGEST_OTHER: u32 = 5;
 pub const PETOOL_FIT_NO: u32 = 0;
 /// A signed digest is that of the file.
 pub const PETOOL_FIT_YES: u32 = 1;
-/// A signed digest is not compared: it is absent, not computed here, or the file has no bytes that a signature signs.
+/// A signed digest is not compared: it is absent, not computed here, or what a signature signs is ambiguous.
 pub const PETOOL_FIT_UNKNOWN: u32 = 2;
 
 /// An overlay begins with nothing: there is none.

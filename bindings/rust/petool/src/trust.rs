@@ -201,8 +201,8 @@ impl<'a> Trust<'a> {
         Ok(rows.into_iter().map(of).collect())
     }
 
-    /// The digest of the file that a signature of it is to sign; `None` if the certificate table passes the file, or begins before the
-    /// end of its entry in the directories.
+    /// The digest of the file that a signature of it is to sign; `None` if what a signature signs is ambiguous: if raw data do not
+    /// follow the headers without a gap or an overlap, or the certificate table is not after them at the end of the file.
     pub fn digest(&self, algorithm: DigestAlgorithm) -> Option<Digest> {
         let (mut raw, mut fault) = (sys::Digest::NONE, sys::Fault::default());
         // SAFETY: the file is a complete slice, which nobody writes to
@@ -250,7 +250,7 @@ impl<'a> Trust<'a> {
         }))
     }
 
-    /// The rules of the certificate table and of the Rich header that are broken, by number: 221 to 224, and 241.
+    /// The rules of the certificate table and of the Rich header that are broken, by number: 221 to 225, and 241.
     /// [`Image::findings`] has them too.
     pub fn findings(&self) -> Result<Vec<Fault>, OutOfMemory> {
         let rows = rows_of(self.file, sys::Fault::default(), sys::petool_trust_findings)?;

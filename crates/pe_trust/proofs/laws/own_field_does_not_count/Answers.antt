@@ -1,7 +1,7 @@
-use Rattle.std.proofs.Common.{◌≡◌, ◌+◌, ◌*◌, ◌/◌, ◌%◌, ◌^◌, ℕ, List, length, false, refl, ap, inl, inr}
+use Rattle.std.proofs.Common.{◌≡◌, ◌+◌, ◌*◌, ◌/◌, ℕ, List, length, false, refl, inl, inr}
 use Rattle.std.proofs.lemmas.Bool.{cases_Bool}
 use Rattle.pe_view.specs.Number.{byte_of, is_in}
-use Rattle.pe_trust.specs.CheckSum.{byte_without, word_at, word_sum, folded, check_sum_of}
+use Rattle.pe_trust.specs.CheckSum.{byte_without, word_at, check_sum_of}
 use Rattle.pe_trust.proofs.Sums.{span-same}
 use Rattle.pe_trust.proofs.laws.own_field_does_not_count.Goals as goal
 
