@@ -22,7 +22,9 @@ export function cellText(key, value) {
     return value.map(each => (typeof each === 'object' ? JSON.stringify(each) : String(each))).join(' ');
   }
   if (typeof value === 'object') {
-    return Object.entries(value).map(([name, part]) => (name === 'module' || name === 'name' ? part : `${name} ${cellText(name, part)}`)).join(' ');
+    const { module, name, ...others } = value;
+    // names stand last, since they may look like what else there is
+    return [...Object.entries(others).map(([part, each]) => `${part} ${cellText(part, each)}`), module, name].filter(part => part !== undefined).join(' ');
   }
   return String(value);
 }

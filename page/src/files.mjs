@@ -1,6 +1,7 @@
 // The list of the files that were dropped: which is shown, how far each is read, and buttons to stop and to close it.
 
 import { byId, element } from './dom.mjs';
+import { shownName } from './names.mjs';
 
 const STOPPABLE_MILLISECONDS = 10_000;
 
@@ -27,8 +28,8 @@ export class FileList {
   /** @param {import('./session.mjs').Session} session */
   add(session) {
     const state = element('span', { class: 'state' });
-    const name = element('button', { type: 'button', 'aria-pressed': false, click: () => this.#choose(session) }, `${session.name} `, state);
-    const progress = element('progress', { max: session.length || 1, value: 0, 'aria-label': `How much of ${session.name} is read` });
+    const name = element('button', { type: 'button', 'aria-pressed': false, click: () => this.#choose(session) }, state, ` ${shownName(session.name)}`);
+    const progress = element('progress', { max: session.length || 1, value: 0, 'aria-label': `How much is read of ${shownName(session.name)}` });
     const end = element('button', { type: 'button', click: () => this.#close(session) });
     const node = element('li', {}, name, progress, end);
     this.#items.set(session, { node, name, state, progress, end });
@@ -44,7 +45,7 @@ export class FileList {
     if (!item) {
       return;
     }
-    item.state.textContent = `(${STATES[session.state]})`;
+    item.state.textContent = `${STATES[session.state]}:`;
     item.node.className = session.state;
     item.name.disabled = session.isPending;
     item.progress.value = session.read;
@@ -80,6 +81,6 @@ export class FileList {
 
   #endBy({ end }, word, { name }) {
     end.textContent = word === 'Close' ? '×' : word;
-    end.setAttribute('aria-label', `${word} ${name}`);
+    end.setAttribute('aria-label', `${word} ${shownName(name)}`);
   }
 }

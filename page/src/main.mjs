@@ -1,6 +1,6 @@
 // The page: the files that were dropped, and what is shown of the chosen one.
 
-import { learnRules } from '../../bindings/js/fault.mjs';
+import { hex, learnRules } from '../../bindings/js/fault.mjs';
 import { byId, count, element } from './dom.mjs';
 import { listenForFiles } from './dropping.mjs';
 import { FileList, STATES } from './files.mjs';
@@ -8,7 +8,8 @@ import { addressed, addressOf } from './fragment.mjs';
 import { Helper } from './helper.mjs';
 import { MapView } from './mapping.mjs';
 import { fileOf, memberAt } from './members.mjs';
-import { nameOf, offsetOf, partsAt, rvaOf } from './parts.mjs';
+import { nameOf, shownName } from './names.mjs';
+import { offsetOf, partsAt, rvaOf } from './parts.mjs';
 import { Picture } from './picture.mjs';
 import { unpacked } from './packed.mjs';
 import { PlacePanel } from './place.mjs';
@@ -33,6 +34,7 @@ let asked = '';
 let map = null;
 // of more files those that were not chosen yet keep no long lists
 const MOST_WHOLE = 32;
+const MOST_NAME = 200;
 const ADDRESS_MILLISECONDS = 1000;
 /** after which the address is written that could not be */
 let addressTimer;
@@ -44,7 +46,7 @@ const files = new FileList(session => {
 }, close);
 const place = new PlacePanel(target => select(target));
 const picture = new Picture((part, side, at) => {
-  const name = at === part[side].at ? part.name : `${part.name}+0x${(at - part[side].at).toString(16)}`;
+  const name = at === part[side].at ? part.name : `${hex(at - part[side].at)} into ${part.name}`;
   const size = at === part[side].at ? part[side].size : 1;
   select({ ...(side === 'file' ? { offset: at } : { rva: at }), size, name });
 });
@@ -56,6 +58,9 @@ const tabs = new Tabs(showTab, id => {
 const tell = words => {
   byId('status').textContent = words;
 };
+
+/** Words about a file, and which it is. @param {string} words @param {Session} session */
+const about = (words, { name }) => `${words}: ${shownName(name)}`;
 
 // ---- files
 
@@ -103,8 +108,9 @@ function tellState(session) {
   if (current && session !== current && sessions.some(({ isPending }) => isPending)) {
     return;
   }
-  const cost = session.memoryBytes ? `It took ${count(Math.ceil(session.milliseconds))} ms, and ${count(Math.ceil(session.memoryBytes / 2 ** 20))} MB of memory.` : session.message;
-  tell(`${session.name}: ${STATES[session.state]}. ${cost}`);
+  const { state, milliseconds, memoryBytes, message } = session;
+  const more = memoryBytes ? ` in ${count(Math.ceil(milliseconds))} ms and ${count(Math.ceil(memoryBytes / 2 ** 20))} MB of memory` : message && ` (${message})`;
+  tell(about(`${STATES[state]}${more}`, session));
 }
 
 /** @param {Session} session */
@@ -112,7 +118,7 @@ function close(session) {
   session.close();
   sessions.splice(sessions.indexOf(session), 1);
   files.remove(session);
-  tell(`${session.name}: closed.`);
+  tell(about('closed', session));
   if (current === session) {
     choose(sessions.find(({ isPending }) => !isPending) ?? null);
   }
@@ -133,7 +139,7 @@ function choose(session) {
   tabs.chosen = '';
   selected = null;
   files.mark(session);
-  document.title = session ? `${session.name} in petool` : 'petool';
+  document.title = session ? about('petool', session) : 'petool';
   byId('main').hidden = !session;
   if (!session) {
     return;
@@ -159,7 +165,7 @@ function choose(session) {
 /** Shows what a file is called, whether it is accepted, what kind it is, and what people ask for first. @param {Session} session */
 function showHead(session) {
   const { name, state } = session;
-  byId('title').replaceChildren(name, ' ', element('span', { class: `badge ${state}` }, STATES[state]));
+  byId('title').replaceChildren(element('span', { class: `badge ${state}` }, STATES[state]), ` ${shownName(name, MOST_NAME)}`);
   byId('kind').textContent = kindOf(session);
   showFacts(session, { showTab: id => tabs.take(id), select });
 }
@@ -170,7 +176,7 @@ async function addTables(session) {
   try {
     await session.addAll();
   } catch (error) {
-    tell(`${session.name}: ${error.message}`);
+    tell(about(error.message, session));
   }
   if (session === current) {
     byId('more').hidden = true;
@@ -289,7 +295,7 @@ async function openMember(session, member) {
     history.replaceState(null, '', addressOf(file.name, null, ''));
     open([file]);
   } catch (error) {
-    tell(`${session.name}: the member cannot be read: ${error.message}`);
+    tell(about(`the member cannot be read: ${error.message}`, session));
   }
 }
 
@@ -317,5 +323,5 @@ listenForFiles(open, tell);
 Helper.prepare();
 unpacked('faults').then(bytes => learnRules(JSON.parse(new TextDecoder().decode(bytes))));
 if (addressed()) {
-  tell(`The address of this page names ${addressed().name}: open this file to go there.`);
+  tell(`To go where the address of this page leads, open this file: ${shownName(addressed().name)}`);
 }

@@ -4,6 +4,7 @@ import { explain, hex, placeText } from '../../bindings/js/fault.mjs';
 import { baseOf, spread } from './bases.mjs';
 import { count, element, some } from './dom.mjs';
 import { Helper } from './helper.mjs';
+import { shownName } from './names.mjs';
 import { neededBy } from './needed.mjs';
 import { mapFiles } from './reading.mjs';
 import { Rows } from './rows.mjs';
@@ -54,7 +55,7 @@ export class MapView {
 
   /** @returns {Choice} */
   #choice(session, base, index, checked) {
-    const { name } = session;
+    const name = shownName(session.name);
     const isIn = element('input', { type: 'checkbox', checked, change: () => this.map() });
     const input = element('input', { id: `base-${index}`, value: hex(base), size: 18, spellcheck: 'false', autocomplete: 'off', 'aria-label': `Base of ${name}`, change: () => this.#move(choice) });
     const row = element('tr', {}, element('td', {}, element('label', {}, isIn, ` ${name}`)), element('td', {}, input));
@@ -152,7 +153,8 @@ export class MapView {
     // the worker knows no words
     const { subject, rule, explained } = explain(fault.number) ?? fault;
     this.#alert.replaceChildren(
-      element('p', {}, `Refused by fault ${fault.number}: ${choice?.session.name ?? ''} ${subject} ${placeText(fault.place)}: ${rule}.`),
+      element('p', {}, `Refused by fault ${fault.number}: ${subject} ${placeText(fault.place)}: ${rule}.`),
+      ...(choice ? [element('p', {}, `The image: ${shownName(choice.session.name)}`)] : []),
       ...(explained ? [element('p', {}, explained)] : []));
   }
 

@@ -1,5 +1,6 @@
 // The parts of a file, as its picture shows them: where each is in the file, and where in the image in memory.
 
+import { nameOf } from './names.mjs';
 import { DIRECTORY_TABLES } from './tables.mjs';
 
 /**
@@ -23,9 +24,6 @@ const MEMBER_HEADER = 60;
 
 /** Whether this is the format of an object. @param {string | undefined} format */
 export const isObjectFormat = format => format in FORMS;
-
-/** A name as a row has it, or its bytes. */
-export const nameOf = (row, key = 'name') => row[key] ?? (row[`${key}_hex`] === undefined ? '' : `bytes ${row[`${key}_hex`]}`);
 
 /** The class of a section's colour, by its flags. @param {number} flags */
 function kindOf(flags) {

@@ -2,6 +2,7 @@
 
 import { hex } from '../../bindings/js/fault.mjs';
 import { byId, count, cut, drawn, element, pressable } from './dom.mjs';
+import { shownName } from './names.mjs';
 import { fewer, partAt, placeIn, spansOf } from './spans.mjs';
 
 const HEIGHT = 560;
@@ -14,7 +15,6 @@ const TABLE = 14;
 const LEAST = 15;
 const LEAST_TABLE = 4;
 const LETTER = 6.6;
-// hostile names are as long as they like
 const MOST_NAME = 200;
 const DRAGGED = 6;
 const ALIGNED = 16;
@@ -233,7 +233,7 @@ export class Picture {
   /** What a part or a table is called by assistive software, and what stands there while the pointer is over it. */
   #words(part, side) {
     const { at, size } = part[side];
-    return `${cut(part.name, MOST_NAME)}: ${side === 'file' ? 'in the file' : 'in memory'} at ${hex(at)}, ${count(size)} bytes`;
+    return `${side === 'file' ? 'in the file' : 'in memory'} at ${hex(at)}, ${count(size)} bytes: ${shownName(part.name, MOST_NAME)}`;
   }
 
   /** The face of a part, which is clicked. */

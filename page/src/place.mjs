@@ -3,11 +3,11 @@
 import { hex } from '../../bindings/js/fault.mjs';
 import { byId, cut } from './dom.mjs';
 import { Hex } from './hex.mjs';
+import { shownName } from './names.mjs';
 import { offsetOf, rvaOf } from './parts.mjs';
 
 /** @typedef {{ rva?: number, offset?: number, size?: number, name?: string }} Target */
 
-// hostile names are as long as they like
 const MOST_NAME = 200;
 const MOST_LETTERS = 10_000;
 const RVAS = 2 ** 32;
@@ -61,7 +61,7 @@ export class PlacePanel {
     const begin = offset ?? offsetOf(parts, rva);
     const where = rva ?? rvaOf(parts, offset);
     const words = [begin !== undefined && `file ${hex(begin)}`, where !== undefined && `RVA ${hex(where)}`].filter(Boolean);
-    byId('place-title').textContent = [cut(name, MOST_NAME), words.join(', ')].filter(Boolean).join(': ');
+    byId('place-title').textContent = [words.join(', '), shownName(name, MOST_NAME)].filter(Boolean).join(': ');
     byId('at').textContent = '';
     if (begin === undefined || begin >= file.length) {
       this.#hex.say(begin === undefined ? wordsOfMemory(file, rva) : 'The file ends before this place.');

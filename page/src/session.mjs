@@ -191,7 +191,7 @@ export class Session {
   /** What a call of the worker returns, which has the file's bytes first. */
   async #ask(call, words, onProgress = () => {}) {
     if (this.state === 'closed') {
-      throw new Error(`${this.name} is closed`);
+      throw new Error('the file is closed');
     }
     this.#calls += 1;
     try {

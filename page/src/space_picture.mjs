@@ -2,6 +2,7 @@
 
 import { hex } from '../../bindings/js/fault.mjs';
 import { count, drawn } from './dom.mjs';
+import { shownName } from './names.mjs';
 
 const GAP = 22;
 const LEAST = 46;
@@ -24,10 +25,10 @@ function sizeText(bytes) {
 function imageShapes({ name, base, size, index }, y, height, moved) {
   const range = `${hex(base)} to ${hex(base + BigInt(size) - 1n)}`;
   const from = moved === undefined ? '' : `, moved from ${hex(moved)}`;
-  const words = `${name}: ${range}, ${count(size)} bytes${from}`;
+  const words = `${range}, ${count(size)} bytes${from}: ${shownName(name)}`;
   return [
     drawn('rect', { x: 0, y, width: '100%', height, class: `image ${KINDS[index % KINDS.length]}${from && ' moved'}`, role: 'img', 'aria-label': words }, drawn('title', {}, words)),
-    drawn('text', { x: 10, y: y + 19, class: 'name' }, `${name}, ${sizeText(BigInt(size))}${from}`),
+    drawn('text', { x: 10, y: y + 19, class: 'name' }, `${sizeText(BigInt(size))}${from}: ${shownName(name)}`),
     drawn('text', { x: 10, y: y + 37, class: 'range' }, range),
   ];
 }

@@ -1,5 +1,7 @@
 // Where the parts of a file are in a bar of its picture.
 
+import { shownName } from './names.mjs';
+
 /** @typedef {import('./parts.mjs').Part} Part */
 /** @typedef {import('./parts.mjs').Range} Range */
 /** @typedef {'file' | 'image'} Side */
@@ -23,7 +25,7 @@ export function fewer(parts) {
   const many = Math.ceil(parts.length / MOST_PARTS);
   return Array.from({ length: Math.ceil(parts.length / many) }, (_, index) => {
     const group = parts.slice(index * many, (index + 1) * many);
-    return { ...group[0], name: `${group[0].name} to ${group.at(-1).name}`, file: joined(group.map(({ file }) => file)), image: joined(group.map(({ image }) => image)) };
+    return { ...group[0], name: `${shownName(group[0].name)} to ${shownName(group.at(-1).name)}`, file: joined(group.map(({ file }) => file)), image: joined(group.map(({ image }) => image)) };
   });
 }
 

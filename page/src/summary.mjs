@@ -1,8 +1,9 @@
 // What people ask for first of a file, in words.
 
 import { hex } from '../../bindings/js/fault.mjs';
-import { byId, count, cut, element, some } from './dom.mjs';
-import { isObjectFormat, nameOf } from './parts.mjs';
+import { byId, count, element, some } from './dom.mjs';
+import { nameOf, shownName } from './names.mjs';
+import { isObjectFormat } from './parts.mjs';
 
 /** @typedef {{ term: string, words: string, tab?: string, rva?: number }} Fact a term and its words, with a table or a place to which they lead */
 
@@ -11,9 +12,18 @@ const REPRODUCIBLE = 16;
 const FIRST_SECOND = Date.UTC(1990, 0) / 1000;
 const LAST_SECOND = 2 ** 31 - 1;
 const MOST_MODULES = 6;
-// hostile names are as long as they like
-const MOST_LETTERS = 500;
+const MOST_SIGNERS = 3;
+// of a text that stands for itself
+const MOST_LETTERS = 200;
 const PROTECTIONS = { DYNAMIC_BASE: 'may stand at any address', HIGH_ENTROPY_VA: 'also above 4 GB', NX_COMPAT: 'data cannot run', GUARD_CF: 'checked calls', FORCE_INTEGRITY: 'must be signed' };
+
+const CHANGED = 'the file was changed since';
+const NO_DIGEST = 'not verified here, and no digest in it can be read';
+const NOT_COMPARED = 'not verified here, and whether it fits is not told, since digests of its algorithm are not compared';
+const NOT_TOLD = 'not verified here, and whether it fits is not told, since where its certificate table lies the file has no digest';
+const FITS = 'not verified here, but its digest fits';
+/** What the page says of signatures, the worst first. */
+const VERDICTS = [CHANGED, NO_DIGEST, NOT_COMPARED, NOT_TOLD, FITS];
 
 const has = (headers, flag) => headers.characteristics_flags?.includes(flag);
 
@@ -46,26 +56,58 @@ function madeAt({ headers, debug }) {
 
 const stringOf = (version, key) => version?.strings?.find(each => each.key === key && each.value)?.value;
 
+/** The first of these names, behind how many there are. @param {string[]} names @param {string} thing that they name @param {number} most */
+function firstOf(names, thing, most) {
+  const shown = names.slice(0, most).map(name => shownName(name) || 'a name of blanks');
+  return `${names.length > most ? `${some(names.length, thing)}, the first of them ` : ''}${shown.join(', ')}`;
+}
+
 /** Whose a signature is: of its certificates the first that none of the others was issued by. @param {object[]} signers */
 function ownerOf(signers) {
-  const isIssuer = signer => signers.some(other => other !== signer && nameOf(other, 'issuer') === nameOf(signer, 'subject'));
+  const issued = new Map();
+  for (const signer of signers) {
+    const issuer = nameOf(signer, 'issuer');
+    issued.set(issuer, (issued.get(issuer) ?? 0) + 1);
+  }
+  const isIssuer = signer => {
+    const subject = nameOf(signer, 'subject');
+    return (issued.get(subject) ?? 0) > Number(nameOf(signer, 'issuer') === subject);
+  };
   const owner = signers.find(signer => !isIssuer(signer)) ?? signers[0];
   return (owner && nameOf(owner, 'subject')) || 'an unknown signer';
 }
 
-/** Whose signatures the file has, and whether they are of this file. */
-function signedBy(certificates) {
-  if (!certificates?.length) {
-    return 'no';
+/** Whether an entry of the certificate table is a signature: of others it has neither a digest nor certificates. */
+const isSignature = ({ digest_hex: digest, signers }) => digest !== undefined || signers?.length > 0;
+
+/** What is known of a signature, whoever's it is. */
+function verdictOf({ digest_hex: digest, digest_algorithm: algorithm, fits }) {
+  if (fits !== undefined) {
+    return fits ? FITS : CHANGED;
   }
-  return certificates.map(({ signers = [], fits }) => `by ${ownerOf(signers)}, ${fits === false ? 'but the file was changed since' : 'which is not verified here'}`).join('; ');
+  if (digest === undefined) {
+    return NO_DIGEST;
+  }
+  return algorithm === undefined ? NOT_COMPARED : NOT_TOLD;
+}
+
+/** Whether the signatures are of this file, and whose. @param {object[]} [certificates] */
+function signedBy(certificates = []) {
+  const signatures = certificates.filter(isSignature);
+  if (!signatures.length) {
+    return certificates.length ? 'no: what its certificate table has is no signature that can be read' : 'no';
+  }
+  const owners = new Map(VERDICTS.map(verdict => [verdict, []]));
+  for (const signature of signatures) {
+    owners.get(verdictOf(signature)).push(ownerOf(signature.signers ?? []));
+  }
+  return [...owners].filter(([, names]) => names.length).map(([verdict, names]) => `${verdict}: by ${firstOf(names, 'signer', MOST_SIGNERS)}`).join('; ');
 }
 
 /** The modules that an image imports from. */
 function modulesOf(imports) {
   const names = [...new Set(imports.map(row => nameOf(row, 'module')))];
-  const more = names.length - MOST_MODULES;
-  return `${count(imports.length)}, from ${names.slice(0, MOST_MODULES).join(', ')}${more > 0 ? ` and ${some(more, 'other')}` : ''}`;
+  return `${count(imports.length)}, from ${firstOf(names, 'module', MOST_MODULES)}`;
 }
 
 /** The facts that its headers, exports and imports tell. @returns {Fact[]} */
@@ -91,21 +133,22 @@ function headerFacts(line) {
 
 /** The facts of the tables that come later. @returns {Fact[]} */
 function beyondFacts({ version, certificates, pdb, clr, findings }) {
-  const product = [stringOf(version, 'ProductName'), version?.file_version?.join('.')].filter(Boolean).join(' ');
+  const textOf = key => shownName(stringOf(version, key) ?? '', MOST_LETTERS);
   const facts = [
-    { term: 'Product', words: product, tab: 'version' },
-    { term: 'Description', words: stringOf(version, 'FileDescription'), tab: 'version' },
-    { term: 'Company', words: stringOf(version, 'CompanyName'), tab: 'version' },
+    { term: 'Product', words: textOf('ProductName'), tab: 'version' },
+    { term: 'Version', words: version?.file_version?.join('.'), tab: 'version' },
+    { term: 'Description', words: textOf('FileDescription'), tab: 'version' },
+    { term: 'Company', words: textOf('CompanyName'), tab: 'version' },
     { term: 'Signed', words: signedBy(certificates), tab: certificates?.length ? 'signers' : undefined },
-    { term: 'PDB file', words: pdb && nameOf(pdb, 'path'), tab: 'pdb' },
+    { term: 'PDB file', words: pdb && shownName(nameOf(pdb, 'path'), MOST_LETTERS), tab: 'pdb' },
     { term: 'For .NET', words: clr && `runtime ${clr.major_runtime_version}.${clr.minor_runtime_version}`, tab: 'clr' },
     { term: 'Findings', words: findings?.length && some(findings.length, 'broken rule'), tab: 'findings' },
   ];
   return facts.filter(({ words }) => words);
 }
 
-/** @param {import('./session.mjs').Session} session @returns {Fact[]} */
-function factsOf({ line, isImage, hasAll }) {
+/** What people ask for first. @param {import('./session.mjs').Session} session @returns {Fact[]} */
+export function factsOf({ line, isImage, hasAll }) {
   if (isImage) {
     return [...hasAll ? beyondFacts(line) : [], ...headerFacts(line)];
   }
@@ -126,8 +169,7 @@ function factsOf({ line, isImage, hasAll }) {
  */
 export function showFacts(session, { showTab, select }) {
   const tabs = session.tables.map(({ id }) => id);
-  const rows = factsOf(session).map(({ term, words: whole, tab, rva }) => {
-    const words = cut(String(whole), MOST_LETTERS);
+  const rows = factsOf(session).map(({ term, words, tab, rva }) => {
     const act = rva !== undefined ? () => select({ rva, name: 'entry point' }) : tabs.includes(tab) && (() => showTab(tab));
     const told = act ? element('button', { type: 'button', class: 'link', click: act }, words) : words;
     return element('div', {}, element('dt', {}, term), element('dd', {}, told));

@@ -1,6 +1,7 @@
 // Which tables a file has, and what a click on a row of each selects.
 
 import { cellText } from './cells.mjs';
+import { shownName } from './names.mjs';
 
 /**
  * @typedef {{ rva?: number, offset?: number, size?: number, name: string }} Target
@@ -37,6 +38,9 @@ function directoryPlace({ name, virtual_address: at, size }) {
 const sectionPlace = section => (section.virtual_address || section.virtual_size ? byRva('virtual_address', 'virtual_size') : byOffset('pointer_to_raw_data', 'size_of_raw_data'))(section);
 
 const debugPlace = row => (row.pointer_to_raw_data ? { offset: row.pointer_to_raw_data, size: row.size_of_data, name: row.type_name ?? 'debug data' } : null);
+
+/** The path of a resource, whose steps are numbers or texts. */
+const resourceName = ({ type, name, language }) => `resource ${[type, name, language].map(step => shownName(String(step))).join('/')}`;
 
 /** A finding leads to its place, whose name is its subject. */
 function findingPlace({ place, subject }) {
@@ -125,7 +129,7 @@ function imageTables(line, add) {
   add('delay_imports', 'Delay imports', 'What it imports only when it first calls it.', line.delay_imports, byRva('slot'));
   add('fixups', 'Relocations', 'The fields that change if the image is laid out at another base.', line.fixups, byRva('rva'));
   add('pages', 'Relocations by page', 'How many of these fields begin in each page of 4,096 bytes.', byPage(line.fixups ?? []), byRva('rva'));
-  add('resources', 'Resources', 'Icons, dialogs, texts, version information and other data, by type, name and language.', line.resources, row => ({ ...byRva('rva', 'size')(row), name: `resource ${row.type}/${row.name}/${row.language}` }));
+  add('resources', 'Resources', 'Icons, dialogs, texts, version information and other data, by type, name and language.', line.resources, row => ({ ...byRva('rva', 'size')(row), name: resourceName(row) }));
   add('version', 'Version', 'What the version information says.', line.version && versionRows(line.version));
   add('functions', 'Functions', 'The functions of the exception table, with their unwind information.', line.functions, byRva('begin'));
   add('symbols', 'Symbols', 'The symbols that the linker left in the file.', line.symbols, line.sections && symbolPlace(line.sections));

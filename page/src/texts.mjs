@@ -1,23 +1,22 @@
 // Texts of a file: the readable page, the lines of JSON, and the manifest.
 
 import { copy, count, element } from './dom.mjs';
-import { nameOf } from './parts.mjs';
+import { nameOf } from './names.mjs';
 
 // what a browser shows without a pause; the rest can be copied
 const MOST_LETTERS = 200_000;
 const MOST_ITEMS = 500;
 
 /** Long lists of a line, shortened. */
-const shortened = (_, value) => (Array.isArray(value) && value.length > MOST_ITEMS ? [...value.slice(0, MOST_ITEMS), `and ${count(value.length - MOST_ITEMS)} more`] : value);
-
-/** The beginning of a text. */
-const beginning = text => (text.length > MOST_LETTERS ? `${text.slice(0, MOST_LETTERS)}\n.. and ${count(text.length - MOST_LETTERS)} letters more` : text);
+const shortened = (_, value) => (Array.isArray(value) && value.length > MOST_ITEMS ? [`the first ${count(MOST_ITEMS)} of ${count(value.length)}:`, ...value.slice(0, MOST_ITEMS)] : value);
 
 /** A text of a file. */
 export class TextView {
   #session;
   #id;
   #text = element('pre', { tabindex: 0 }, 'A moment ..');
+  /** that the text goes on, which stands before what a file may say itself */
+  #rest = element('p', { class: 'hint', hidden: true });
 
   /**
    * @param {import('./session.mjs').Session} session
@@ -31,12 +30,15 @@ export class TextView {
     this.#text.setAttribute('aria-label', title);
     this.node = element('div', {},
       element('div', { class: 'tools' }, element('button', { type: 'button', click: async () => copy(await this.#told(), title, tell) }, 'Copy all')),
-      this.#text);
+      this.#rest, this.#text);
     this.#show();
   }
 
   async #show() {
-    this.#text.textContent = beginning(await this.#told(shortened, 1));
+    const text = await this.#told(shortened, 1);
+    this.#text.textContent = text.slice(0, MOST_LETTERS);
+    this.#rest.hidden = text.length <= MOST_LETTERS;
+    this.#rest.textContent = `These are the first ${count(MOST_LETTERS)} of ${count(text.length)} letters.`;
   }
 
   /** The text, where the lines of JSON are written so. */

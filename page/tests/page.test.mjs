@@ -65,8 +65,8 @@ class Steps {
   }
 
   async choose(file) {
-    const name = JSON.stringify(`${basename(file)} (`);
-    await this.browser.ask(`[...document.querySelectorAll("#files button")].find(button => button.textContent.startsWith(${name})).click()`);
+    const name = JSON.stringify(`: ${basename(file)}`);
+    await this.browser.ask(`[...document.querySelectorAll("#files button")].find(button => button.textContent.endsWith(${name})).click()`);
   }
 
   async showTab(id) {
@@ -172,7 +172,7 @@ for (const [Browser, program] of [[Chromium, process.env.CHROMIUM], [Firefox, pr
 
     test('an image is shown, and a click on a section selects it', async () => {
       await steps.drop([join(CASES, 'vb.dll')]);
-      assert.equal(await steps.text('title'), 'vb.dll accepted');
+      assert.equal(await steps.text('title'), 'accepted vb.dll');
       assert.equal(await steps.text('kind'), 'library for I386 (PE32), 1,024 bytes');
       await browser.ask('document.querySelector("#bars [role=button][aria-label*=\'in memory\'][aria-label*=\'0x1000,\']").dispatchEvent(new MouseEvent("click", { bubbles: true }))');
       await browser.until('document.getElementById("at").textContent.startsWith("RVA 0x01000") || document.getElementById("at").textContent.startsWith("RVA 0x1000")');
@@ -210,7 +210,7 @@ for (const [Browser, program] of [[Chromium, process.env.CHROMIUM], [Firefox, pr
       assert.deepEqual((await steps.copiedRows()).map(({ member, offset }) => [member, offset]), [['o1.obj', 8], ['two.obj', 8 + 60 + 192]]);
       await browser.ask('document.querySelector("#panel tbody tr[aria-rowindex=\'2\']").click()');
       await steps.openMember();
-      assert.equal(await steps.text('title'), 'o1.obj accepted');
+      assert.equal(await steps.text('title'), 'accepted o1.obj');
       assert.equal(await steps.text('kind'), 'object for AMD64 (COFF), 191 bytes');
     });
 
@@ -237,8 +237,8 @@ for (const [Browser, program] of [[Chromium, process.env.CHROMIUM], [Firefox, pr
       await steps.drop([name]);
       await steps.choose(name);
       assert.equal(await browser.ask('document.querySelectorAll("img").length'), 0);
-      assert.equal(await browser.ask('document.title'), `${basename(name)} in petool`);
-      assert.equal(await steps.text('title'), `${basename(name)} accepted`);
+      assert.equal(await browser.ask('document.title'), `petool: ${basename(name)}`);
+      assert.equal(await steps.text('title'), `accepted ${basename(name)}`);
     });
 
     test('a file that is too large is refused with words, and the page goes on', async () => {
@@ -249,7 +249,7 @@ for (const [Browser, program] of [[Chromium, process.env.CHROMIUM], [Firefox, pr
       await steps.choose(large);
       assert.match(await steps.text('fault'), /500 MB/);
       await steps.choose('vb.dll');
-      assert.equal(await steps.text('title'), 'vb.dll accepted');
+      assert.equal(await steps.text('title'), 'accepted vb.dll');
     });
 
     // vb.dll exports g at the RVA 0x1010
@@ -278,9 +278,9 @@ for (const [Browser, program] of [[Chromium, process.env.CHROMIUM], [Firefox, pr
       await steps.drop([long]);
       await browser.until('document.getElementById("tab-exports")');
       const seen = await browser.ask('seen');
-      assert.equal(seen[0][0], 'long.dll being read');
+      assert.equal(seen[0][0], 'being read long.dll');
       assert.ok(seen[1][1] > 4, 'the picture had no parts');
-      assert.equal(seen.at(-1)[0], 'long.dll accepted');
+      assert.equal(seen.at(-1)[0], 'accepted long.dll');
       assert.ok(seen.every(([, , isHidden]) => isHidden));
       assert.equal(await steps.text('kind'), `library for I386 (PE32), ${LONG.toLocaleString('en')} bytes`);
       await steps.drop([join(CASES, 'vb.dll')]);
@@ -294,23 +294,23 @@ for (const [Browser, program] of [[Chromium, process.env.CHROMIUM], [Firefox, pr
       assert.ok(files.length > 5);
       await steps.drop(files);
       const told = await browser.ask('[...document.querySelectorAll("#files button[aria-pressed]")].map(button => button.textContent)');
-      assert.deepEqual(told.slice(-files.length).filter(text => !/ \((accepted|refused)\)$/.test(text)), []);
+      assert.deepEqual(told.slice(-files.length).filter(text => !/^(accepted|refused): /.test(text)), []);
       await steps.choose('vb.dll');
-      assert.equal(await steps.text('title'), 'vb.dll accepted');
+      assert.equal(await steps.text('title'), 'accepted vb.dll');
     });
 
     test('a file that takes over ten seconds can be stopped, and the page is used meanwhile', async () => {
       await browser.ask('(() => { window.RealWorker = Worker; window.Worker = class { postMessage() {} terminate() { window.isEnded = true; } }; })()');
       await browser.drop([join(CASES, 'v2.dll')]);
       await steps.choose('vb.dll');
-      assert.equal(await steps.text('title'), 'vb.dll accepted');
+      assert.equal(await steps.text('title'), 'accepted vb.dll');
       await browser.until('document.querySelector("#files [aria-label=\'Stop v2.dll\']")');
       await browser.ask('document.querySelector("#files [aria-label=\'Stop v2.dll\']").click()');
       assert.equal(await browser.ask('isEnded && !document.querySelector("#files [aria-label$=\'v2.dll\']")'), true);
       await browser.ask('(() => { window.Worker = RealWorker; })()');
       await steps.drop([join(CASES, 'v2.dll')]);
       await steps.choose('v2.dll');
-      assert.equal(await steps.text('title'), 'v2.dll accepted');
+      assert.equal(await steps.text('title'), 'accepted v2.dll');
     });
 
     test('a table is sorted and filtered, and copied as it is shown', async () => {
@@ -356,7 +356,7 @@ for (const [Browser, program] of [[Chromium, process.env.CHROMIUM], [Firefox, pr
       assert.deepEqual(after, expected);
       assert.equal(await browser.ask('document.querySelectorAll("#panel tr.changed").length'), expected.filter(row => row.before).length);
       await steps.rebase(index, '0x1234');
-      await browser.until('/fault 44: b.dll base 0x1234: the base is not a multiple of/.test(document.querySelector("#panel [role=alert]").textContent)');
+      await browser.until('/fault 44: base 0x1234: the base is not a multiple of/.test(document.querySelector("#panel [role=alert]").textContent)');
       assert.equal(await browser.ask(`document.getElementById("base-${index}").getAttribute("aria-invalid")`), 'true');
       // the move of another shows where the image stands, and no more the base that was refused
       await steps.rebase(await indexOf('A.dll'), '0x50000000');
@@ -399,7 +399,7 @@ for (const [Browser, program] of [[Chromium, process.env.CHROMIUM], [Firefox, pr
       for (const file of files) {
         const line = lineOf(file);
         await steps.choose(file);
-        assert.equal(await steps.text('title'), `${basename(file)} ${line.accepted ? 'accepted' : 'refused'}`);
+        assert.equal(await steps.text('title'), `${line.accepted ? 'accepted' : 'refused'} ${basename(file)}`);
         for (const id of TABLES.filter(each => line[each]?.length || (line[each] && EMPTY.includes(each)))) {
           await steps.showTab(id);
           assert.deepEqual(await steps.copiedRows(), line[id].map(withoutRelocations), `${id} of ${file}`);
@@ -447,7 +447,7 @@ describe('chromium, by itself', process.env.CHROMIUM ? {} : { skip: 'left out wi
     await browser.until('document.querySelectorAll("#files li").length === 3 && !document.querySelector("#files progress")');
     rmSync(folder, { recursive: true });
     await steps.choose('v2.dll');
-    assert.equal(await steps.text('title'), 'v2.dll accepted');
+    assert.equal(await steps.text('title'), 'accepted v2.dll');
     await steps.choose('vb.dll');
   });
 
@@ -465,9 +465,9 @@ describe('chromium, by itself', process.env.CHROMIUM ? {} : { skip: 'left out wi
     await browser.ask('document.querySelector("#bars [tabindex=\'0\']").focus()');
     await browser.key('ArrowDown');
     await browser.key('Enter');
-    await browser.until('document.getElementById("place-title").textContent.startsWith(".edata: file 0x200")');
+    await browser.until('document.getElementById("place-title").textContent.startsWith("file 0x200, RVA 0x1000: .edata")');
     await browser.key('ArrowRight');
-    assert.match(await browser.ask('document.activeElement.getAttribute("aria-label")'), /^\.edata: in memory at 0x1000/);
+    assert.match(await browser.ask('document.activeElement.getAttribute("aria-label")'), /^in memory at 0x1000, .*: \.edata$/);
     await browser.key('Enter');
     await browser.ask('document.getElementById("zoom-in").focus()');
     await browser.key('Enter');

@@ -9,7 +9,9 @@ import { unpackLzma } from '../src/lzma.mjs';
 import { fileOf, memberAt } from '../src/members.mjs';
 import { neededBy } from '../src/needed.mjs';
 import { offsetOf, partsAt, partsOf, rvaOf } from '../src/parts.mjs';
+import { nameOf, shownName } from '../src/names.mjs';
 import { fewer, partAt, placeIn, spansOf } from '../src/spans.mjs';
+import { factsOf } from '../src/summary.mjs';
 import { tablesOf } from '../src/tables.mjs';
 
 const section = (index, name, virtual, raw, characteristics) => ({
@@ -90,6 +92,10 @@ test('cells, and their forms as text', () => {
   assert.deepEqual(JSON.parse(asJson(rows)).at(-1), { name: 'two\nlines', rva: '0x10' });
 });
 
+test('of an object in a cell the names stand behind what else there is', () => {
+  assert.equal(cellText('forward', { module: 'ordinal 1', ordinal: 7 }), 'ordinal 7 ordinal 1');
+});
+
 test('numbers are sorted by their size, also those of 64 bits, and before letters', () => {
   const rows = ['0x20', 'b', 9, '0x100000000', undefined, 'a'].map(key => ({ key }));
   assert.deepEqual(sorted(rows, { key: 'key', way: 1 }).map(({ key }) => key), [9, '0x20', '0x100000000', undefined, 'a', 'b']);
@@ -163,6 +169,61 @@ test('rows lead to the places that they are about', () => {
   assert.deepEqual(tables.get('pages').rows, [{ rva: 0x1000, fields: 2 }, { rva: 0x2000, fields: 1 }]);
   assert.deepEqual(tables.get('signers').rows, [{ subject: 'A', offset: 0x800 }, { subject: 'B', offset: 0x800 }]);
   assert.deepEqual(['imports', 'findings', 'modules', 'debug'].map(id => tables.has(id)), [true, false, false, false]);
+});
+
+test('a name stands in one line beside words, without what turns their direction, and is cut by itself', () => {
+  assert.equal(shownName(`  a${' '.repeat(500)}b\n\u202ec\u00a0\u2003d\ufeff `), 'a b c d');
+  assert.equal(shownName('x'.repeat(500), 10), 'xxxxxxxxxx..');
+  assert.equal(shownName(' \u200b '), '');
+  assert.deepEqual([nameOf({ name: 'a' }), nameOf({ name_hex: 'ff00' }), nameOf({})], ['a', 'bytes ff00', '']);
+});
+
+const HEADERS = { image_base: '0x10000000', size_of_image: 0x1000, time_date_stamp: 0, address_of_entry_point: 0 };
+const factOf = (line, term) => factsOf({ line: { headers: HEADERS, ...line }, isImage: true, hasAll: true }).find(fact => fact.term === term)?.words;
+const signature = (subject, rest = { fits: true }) => ({ digest_algorithm: 'SHA-256', digest_hex: '00', signers: [{ subject: 'CA', issuer: 'CA' }, { subject, issuer: 'CA' }], ...rest });
+
+test('whether a signature fits stands before whose it is, whatever name that has', () => {
+  const changed = 'the file was changed since: by ';
+  assert.equal(factOf({ certificates: [signature('Example', { fits: false })] }, 'Signed'), `${changed}Example`);
+  assert.equal(factOf({ certificates: [signature(`Example${' '.repeat(500)}which is not verified here`, { fits: false })] }, 'Signed'), `${changed}Example which is not verified here`);
+  assert.equal(factOf({ certificates: [signature('x'.repeat(5000), { fits: false })] }, 'Signed'), `${changed}${'x'.repeat(80)}..`);
+  assert.equal(factOf({ certificates: [signature(' '.repeat(500), { fits: false })] }, 'Signed'), `${changed}a name of blanks`);
+  assert.equal(factOf({ certificates: [signature('Example')] }, 'Signed'), 'not verified here, but its digest fits: by Example');
+});
+
+test('what is not told of a signature is not said of it', () => {
+  const untold = [{}, { digest_algorithm: undefined }, { digest_algorithm: undefined, digest_hex: undefined }];
+  for (const rest of untold) {
+    assert.match(factOf({ certificates: [signature('Example', rest)] }, 'Signed'), /^not verified here, and (whether it fits is not told, since|no digest in it can be read).*: by Example$/);
+  }
+  assert.equal(new Set(untold.map(rest => factOf({ certificates: [signature('Example', rest)] }, 'Signed'))).size, 3);
+});
+
+test('the worst of many signatures is told first, and what is no signature is no signer', () => {
+  const fitting = Array.from({ length: 50 }, (_, index) => signature(`Fitting ${index}`));
+  assert.equal(factOf({ certificates: [...fitting, signature('Example', { fits: false })] }, 'Signed'),
+    'the file was changed since: by Example; not verified here, but its digest fits: by 50 signers, the first of them Fitting 0, Fitting 1, Fitting 2');
+  assert.equal(factOf({ certificates: [{ offset: 1024, length: 8, type: 2, signers: [] }] }, 'Signed'), 'no: what its certificate table has is no signature that can be read');
+  assert.equal(factOf({ certificates: [{ offset: 1024, length: 8, type: 1 }, signature('Example')] }, 'Signed'), 'not verified here, but its digest fits: by Example');
+  assert.deepEqual([factOf({ certificates: [] }, 'Signed'), factOf({}, 'Signed')], ['no', 'no']);
+});
+
+test('a signature is of the first of its certificates that none of the others was issued by', () => {
+  const ownerOf = signers => factOf({ certificates: [{ digest_hex: '00', digest_algorithm: 'SHA-256', fits: true, signers }] }, 'Signed').replace(/^.*: by /, '');
+  assert.equal(ownerOf([{ subject: 'Root', issuer: 'Root' }, { subject: 'CA', issuer: 'Root' }, { subject: 'Leaf', issuer: 'CA' }]), 'Leaf');
+  assert.equal(ownerOf([{ subject: 'Self', issuer: 'Self' }]), 'Self');
+  assert.equal(ownerOf([{ subject: 'A', issuer: 'B' }, { subject: 'B', issuer: 'A' }]), 'A');
+  assert.equal(ownerOf([{ subject_hex: 'ff', issuer: 'CA' }]), 'bytes ff');
+  assert.equal(ownerOf([{ issuer: 'CA' }]), 'an unknown signer');
+  assert.equal(ownerOf([]), 'an unknown signer');
+});
+
+test('how many modules there are stands before their names, and each other name is a fact of its own', () => {
+  const imports = Array.from({ length: 9 }, (_, index) => ({ module: index ? `m${index}.dll` : `m0${' '.repeat(500)}.dll` }));
+  assert.equal(factOf({ imports: imports.slice(0, 2) }, 'Imports'), '2, from m0 .dll, m1.dll');
+  assert.equal(factOf({ imports }, 'Imports'), '9, from 9 modules, the first of them m0 .dll, m1.dll, m2.dll, m3.dll, m4.dll, m5.dll');
+  const version = { file_version: [1, 2, 3, 4], strings: [{ key: 'ProductName', value: 'y'.repeat(500) }] };
+  assert.deepEqual([factOf({ version }, 'Version'), factOf({ version }, 'Product')], ['1.2.3.4', `${'y'.repeat(200)}..`]);
 });
 
 // what is packed by Python: nothing, one byte, a run, text, bytes without a pattern, the same a long way behind, and near repeats

@@ -1,0 +1,88 @@
+// Tests of what the page says and how long it takes, with a stand-in for its worker, in the browser that CHROMIUM names.
+
+import assert from 'node:assert/strict';
+import { mkdtempSync, rmSync, writeFileSync } from 'node:fs';
+import { tmpdir } from 'node:os';
+import { join } from 'node:path';
+import { after, before, describe, test } from 'node:test';
+import { pathToFileURL } from 'node:url';
+import { Chromium } from './chromium.mjs';
+import { pageWithStandIn } from './stand_in.mjs';
+
+const HEADERS = { machine: 0x14c, machine_name: 'I386', characteristics_flags: ['DLL'], image_base: '0x10000000', size_of_image: 0x3000, size_of_headers: 0x200, time_date_stamp: 0, address_of_entry_point: 0, pointer_to_symbol_table: 0, number_of_symbols: 0 };
+const BLANKS = ' '.repeat(500);
+
+/** The line of an image with these keys too. */
+const lineOf = (more = {}) => ({ accepted: true, format: 'PE32', pe_offset: 64, headers: HEADERS, directories: [], sections: [], exports: [], imports: [], fixups: [], ...more });
+
+describe('chromium', process.env.CHROMIUM ? {} : { skip: 'left out without chromium' }, () => {
+  let folder;
+  let browser;
+
+  before(async () => {
+    folder = mkdtempSync(join(tmpdir(), 'petool-told-'));
+    browser = await Chromium.open(process.env.CHROMIUM, pathToFileURL(pageWithStandIn(folder)).href);
+  });
+
+  after(async () => {
+    await browser?.close();
+    rmSync(folder, { recursive: true, force: true });
+  });
+
+  /** Drops a file that says this, and chooses it. */
+  async function show(name, told) {
+    writeFileSync(join(folder, name), JSON.stringify(told));
+    const there = await browser.ask('document.querySelectorAll("#files li").length');
+    await browser.drop([join(folder, name)]);
+    await browser.until(`document.querySelectorAll("#files li").length === ${there + 1} && !document.querySelector("#files progress")`);
+    await browser.ask('document.querySelector("#files li:last-child button").click()');
+    await browser.until('document.getElementById("more").hidden || !/being read/.test(document.getElementById("more").textContent)');
+  }
+
+  const text = id => browser.ask(`document.getElementById(${JSON.stringify(id)}).textContent`);
+  const factOf = term => browser.ask(`[...document.querySelectorAll("#facts div")].find(({ firstChild }) => firstChild.textContent === ${JSON.stringify(term)})?.lastChild.textContent`);
+
+  test('that a file was changed since it was signed is seen, whoever signed it', async () => {
+    const certificates = [{ offset: 1024, length: 96, type: 2, digest_algorithm: 'SHA-256', digest_hex: '00', fits: false, signers: [{ subject: `Example${BLANKS}` }] }];
+    await show('changed.dll', { line: lineOf(), all: lineOf({ certificates }) });
+    assert.equal(await factOf('Signed'), 'the file was changed since: by Example');
+  });
+
+  test('the name of a file stands behind what is said of it', async () => {
+    const name = `a${' '.repeat(200)}accepted.dll`;
+    const line = { ...lineOf(), accepted: false, fault: { number: 13, image: 0, place: { file: 312 }, subject: 'section header', rule: 'it is wrong' } };
+    await show(name, { line, all: line });
+    assert.equal(await text('title'), 'refused a accepted.dll');
+    assert.equal(await browser.ask('document.title'), 'petool: a accepted.dll');
+    assert.equal(await browser.ask('document.querySelector("#files li:last-child button").textContent'), 'refused: a accepted.dll');
+    assert.match(await text('status'), /^refused in \d+ ms and 1 MB of memory: a accepted\.dll$/);
+    await browser.ask('document.querySelector("#files li:last-child button:last-child").click()');
+    assert.equal(await text('status'), 'closed: a accepted.dll');
+  });
+
+  test('the name of a part stands behind its place', async () => {
+    const section = { index: 0, name: `.text${BLANKS}in memory at 0x0`, virtual_address: 0x1000, virtual_size: 0x200, pointer_to_raw_data: 0x200, size_of_raw_data: 0x200, characteristics: 0x60000020 };
+    await show('named.dll', { line: lineOf({ sections: [section] }), all: lineOf({ sections: [section] }) });
+    const labels = await browser.ask('[...document.querySelectorAll("#bars .part")].map(part => part.getAttribute("aria-label"))');
+    assert.ok(labels.includes('in memory at 0x1000, 512 bytes: .text in memory at 0x0'), labels.join('\n'));
+    await browser.ask('[...document.querySelectorAll("#bars .part")].find(part => part.getAttribute("aria-label").startsWith("in memory at 0x1000")).dispatchEvent(new MouseEvent("click", { bubbles: true }))');
+    assert.equal(await text('place-title'), 'file 0x200, RVA 0x1000: .text in memory at 0x0');
+  });
+
+  test('the names of images stand behind where they are mapped', async () => {
+    const image = `m${' '.repeat(200)}at 0x0.dll`;
+    await show(image, { line: lineOf(), all: lineOf(), map: { images: [{ name: 'x', base: 0, size: 0 }], bindings: [], unbound: [] } });
+    await browser.ask('document.getElementById("tab-map").click()');
+    const shown = await browser.ask('[...document.querySelectorAll(".map-images label")].map(label => label.textContent)');
+    assert.ok(shown.includes(' m at 0x0.dll'), shown.join());
+  });
+
+  test('that a text goes on is said before it', async () => {
+    const manifest = `${'m'.repeat(200_000)}\n.. and 3 letters more`;
+    await show('manifest.dll', { line: lineOf(), all: lineOf({ manifest }) });
+    await browser.ask('document.getElementById("tab-manifest").click()');
+    await browser.until('!/A moment/.test(document.getElementById("panel").textContent)');
+    assert.equal(await browser.ask('document.querySelector("#panel pre").textContent'), 'm'.repeat(200_000));
+    assert.match(await text('panel'), /^Copy allThese are the first 200,000 of 200,022 letters\.m/);
+  });
+});
