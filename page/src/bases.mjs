@@ -18,6 +18,12 @@ class Taken {
     return low;
   }
 
+  /** Whether so many bytes at a base meet no range. @param {bigint} base @param {bigint} size */
+  isFree(base, size) {
+    const next = this.#ranges[this.#after(base)];
+    return !next || next.base >= base + size;
+  }
+
   /** The first base from `base` on at which so many bytes meet no range. @param {bigint} base @param {bigint} size */
   freeFrom(base, size) {
     for (let index = this.#after(base); index < this.#ranges.length && this.#ranges[index].base < base + size; index += 1) {
@@ -42,7 +48,7 @@ export function spread(headers) {
   let next = FIRST_BASE;
   return headers.map(({ image_base, size_of_image }) => {
     const [own, size] = [BigInt(image_base), BigInt(size_of_image)];
-    const isFree = taken.freeFrom(own, size) === own;
+    const isFree = taken.isFree(own, size);
     const base = isFree ? own : taken.freeFrom(next, size);
     taken.add(base, size);
     if (!isFree) {

@@ -7,8 +7,17 @@ import { nameOf } from './names.mjs';
 const MOST_LETTERS = 200_000;
 const MOST_ITEMS = 500;
 
-/** Long lists of a line, shortened. */
-const shortened = (_, value) => (Array.isArray(value) && value.length > MOST_ITEMS ? [`the first ${count(MOST_ITEMS)} of ${count(value.length)}:`, ...value.slice(0, MOST_ITEMS)] : value);
+/** A replacer for lines of JSON that shortens long lists, and leaves out what comes after more letters than are shown. */
+export function shortening() {
+  let letters = 0;
+  return (_, value) => {
+    if (letters > MOST_LETTERS) {
+      return undefined;
+    }
+    letters += typeof value === 'string' ? value.length : 1;
+    return Array.isArray(value) && value.length > MOST_ITEMS ? [`the first ${count(MOST_ITEMS)} of ${count(value.length)}:`, ...value.slice(0, MOST_ITEMS)] : value;
+  };
+}
 
 /** A text of a file. */
 export class TextView {
@@ -35,10 +44,10 @@ export class TextView {
   }
 
   async #show() {
-    const text = await this.#told(shortened, 1);
+    const text = await this.#told(shortening(), 1);
     this.#text.textContent = text.slice(0, MOST_LETTERS);
     this.#rest.hidden = text.length <= MOST_LETTERS;
-    this.#rest.textContent = `These are the first ${count(MOST_LETTERS)} of ${count(text.length)} letters.`;
+    this.#rest.textContent = `These are the first ${count(MOST_LETTERS)} letters; what is copied has all.`;
   }
 
   /** The text, where the lines of JSON are written so. */

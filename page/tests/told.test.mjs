@@ -7,10 +7,14 @@ import { join } from 'node:path';
 import { after, before, describe, test } from 'node:test';
 import { pathToFileURL } from 'node:url';
 import { Chromium } from './chromium.mjs';
+import { archiveLines, imageLine, objectLine } from './long_lists.mjs';
 import { pageWithStandIn } from './stand_in.mjs';
 
 const HEADERS = { machine: 0x14c, machine_name: 'I386', characteristics_flags: ['DLL'], image_base: '0x10000000', size_of_image: 0x3000, size_of_headers: 0x200, time_date_stamp: 0, address_of_entry_point: 0, pointer_to_symbol_table: 0, number_of_symbols: 0 };
 const BLANKS = ' '.repeat(500);
+// as many rows as a file of some megabytes has in one list: the product of two such numbers takes minutes
+const MANY = 50_000;
+const MOST_MILLISECONDS = 8000;
 
 /** The line of an image with these keys too. */
 const lineOf = (more = {}) => ({ accepted: true, format: 'PE32', pe_offset: 64, headers: HEADERS, directories: [], sections: [], exports: [], imports: [], fixups: [], ...more });
@@ -77,12 +81,35 @@ describe('chromium', process.env.CHROMIUM ? {} : { skip: 'left out without chrom
     assert.ok(shown.includes(' m at 0x0.dll'), shown.join());
   });
 
+  /** What takes so long that nothing can be clicked meanwhile is kept from now on, in milliseconds. */
+  const watch = () => browser.ask('(() => { window.long = [0]; new PerformanceObserver(list => long.push(...list.getEntries().map(({ duration }) => Math.round(duration)))).observe({ type: "longtask" }); })()');
+
+  for (const [kind, linesOf] of [['image', imageLine], ['object', objectLine], ['archive', archiveLines]]) {
+    test(`an ${kind} with ${MANY} rows in each list leaves the page alive, and all its tables can be shown`, async () => {
+      const lines = linesOf(MANY);
+      await watch();
+      await show(`many.${kind}`, { line: lines.at(-1), members: lines.slice(0, -1), all: kind === 'image' ? lines[0] : undefined, show: 'a page', at: 'a place' });
+      assert.equal(await text('title'), `accepted many.${kind}`);
+      const tabs = await browser.ask('[...document.querySelectorAll("#tabs button")].map(({ id }) => id)');
+      assert.ok(tabs.length > 4, tabs.join());
+      for (const tab of tabs.filter(id => id !== 'tab-map')) {
+        await browser.ask(`document.getElementById("${tab}").click()`);
+        await browser.ask('document.querySelector("#panel thead button")?.click()');
+        await browser.ask('(() => { const search = document.querySelector("#panel input"); if (search) { search.value = "9"; search.dispatchEvent(new Event("input")); } })()');
+        assert.ok(await browser.ask('document.querySelector("#panel tr[aria-rowindex], #panel pre") !== null'), tab);
+      }
+      const longest = await browser.ask('new Promise(told => setTimeout(() => told(Math.max(...long)), 100))');
+      assert.ok(longest < MOST_MILLISECONDS, `${longest} milliseconds`);
+      await browser.ask('document.querySelector("#files li:last-child button:last-child").click()');
+    });
+  }
+
   test('that a text goes on is said before it', async () => {
     const manifest = `${'m'.repeat(200_000)}\n.. and 3 letters more`;
     await show('manifest.dll', { line: lineOf(), all: lineOf({ manifest }) });
     await browser.ask('document.getElementById("tab-manifest").click()');
     await browser.until('!/A moment/.test(document.getElementById("panel").textContent)');
     assert.equal(await browser.ask('document.querySelector("#panel pre").textContent'), 'm'.repeat(200_000));
-    assert.match(await text('panel'), /^Copy allThese are the first 200,000 of 200,022 letters\.m/);
+    assert.match(await text('panel'), /^Copy allThese are the first 200,000 letters; what is copied has all\.m/);
   });
 });

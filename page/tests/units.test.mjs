@@ -13,6 +13,8 @@ import { nameOf, shownName } from '../src/names.mjs';
 import { fewer, partAt, placeIn, spansOf } from '../src/spans.mjs';
 import { factsOf } from '../src/summary.mjs';
 import { tablesOf } from '../src/tables.mjs';
+import { shortening } from '../src/texts.mjs';
+import { archiveLines, imageLine, objectLine } from './long_lists.mjs';
 
 const section = (index, name, virtual, raw, characteristics) => ({
   index, name, virtual_address: virtual[0], virtual_size: virtual[1], pointer_to_raw_data: raw[0], size_of_raw_data: raw[1], characteristics, characteristics_flags: [],
@@ -137,6 +139,14 @@ test('thousands of images of one base stand one behind the other, around those t
   assert.equal(new Set(bases).size, bases.length);
 });
 
+test('twenty thousand images of the base at which those begin that are moved get theirs in a moment', () => {
+  const many = Array.from({ length: 20_000 }, () => ({ image_base: '0x10000000', size_of_image: 0x10000 }));
+  const began = process.cpuUsage();
+  const bases = spread(many);
+  assert.ok(process.cpuUsage(began).user < 5_000_000);
+  assert.equal(bases.at(-1), 0x10000000n + 0x10000n * 19_999n);
+});
+
 test('an image needs those that it imports from, and what these need', () => {
   const image = (name, ...modules) => ({ name, line: { imports: modules.map(module => ({ module })) } });
   const images = [image('a.dll', 'B.DLL', 'missing.dll'), image('b.dll', 'c.dll'), image('C.dll', 'a.dll'), image('d.dll', 'a.dll')];
@@ -224,6 +234,53 @@ test('how many modules there are stands before their names, and each other name 
   assert.equal(factOf({ imports }, 'Imports'), '9, from 9 modules, the first of them m0 .dll, m1.dll, m2.dll, m3.dll, m4.dll, m5.dll');
   const version = { file_version: [1, 2, 3, 4], strings: [{ key: 'ProductName', value: 'y'.repeat(500) }] };
   assert.deepEqual([factOf({ version }, 'Version'), factOf({ version }, 'Product')], ['1.2.3.4', `${'y'.repeat(200)}..`]);
+});
+
+/** How often the rows of a file are read for all that the page tells of it, if its lists have so many rows. */
+function readsOf(linesOf, rows) {
+  let reads = 0;
+  const counted = value => (typeof value !== 'object' || value === null ? value : new Proxy(value, {
+    get: (target, key) => {
+      reads += 1;
+      return Array.isArray(target) && typeof target[key] === 'function' ? target[key] : counted(target[key]);
+    },
+    ownKeys: target => {
+      reads += 1;
+      return Reflect.ownKeys(target);
+    },
+  }));
+  const lines = counted(linesOf(rows));
+  const line = lines.at(-1);
+  const members = lines.slice(0, -1);
+  const isObject = line.format === 'COFF';
+  const parts = partsOf({ line, members, length: 2 ** 30 });
+  spansOf(fewer(parts), 'file', 0.01);
+  memberAt({ line, members }, 2 ** 29);
+  factsOf({ line, isImage: line.format === 'PE32', hasAll: true });
+  neededBy({ name: 'a.dll', line }, [{ name: 'b.dll', line }]);
+  for (const { rows: shown, place } of tablesOf(line, members, isObject)) {
+    const columns = columnsOf(shown);
+    columns.forEach(key => sorted(shown, { key, way: 1 }));
+    asCsv(shown, columns, (key, row) => cellText(key, row[key]));
+    shown.forEach(row => place?.(row));
+  }
+  return reads;
+}
+
+test('what the page computes reads rows as often as there are rows, in files that have many of each kind', () => {
+  for (const linesOf of [imageLine, objectLine, archiveLines]) {
+    const [few, many] = [500, 2000].map(rows => readsOf(linesOf, rows));
+    assert.ok(few > 500 && many < 4.5 * few, `${few} reads for 500 rows, ${many} for 2000`);
+  }
+});
+
+test('of a long text no more is written as JSON than is shown', () => {
+  const long = { texts: Array.from({ length: 400 }, (_, index) => `${index}`.padEnd(1000, 'x')), more: Array.from({ length: 400 }, () => Array.from({ length: 400 }, () => 'y')) };
+  const shown = JSON.stringify(long, shortening(), 1);
+  assert.ok(shown.length < 250_000, `${shown.length} letters`);
+  assert.equal(shown.slice(0, 200_000), JSON.stringify(long, null, 1).slice(0, 200_000));
+  const list = Array.from({ length: 501 }, (_, index) => index);
+  assert.deepEqual(JSON.parse(JSON.stringify({ list }, shortening())), { list: ['the first 500 of 501:', ...list.slice(0, 500)] });
 });
 
 // what is packed by Python: nothing, one byte, a run, text, bytes without a pattern, the same a long way behind, and near repeats
