@@ -3,7 +3,8 @@
 #   make [-j4] petool                      builds the program; with -j, several crates are proved at a time
 #   make [-j4]                             builds the program and the library
 #   make [-j4] page                        builds the page and the package for JavaScript in $(O)/page and $(O)/js
-#   make install [PREFIX=..] [DESTDIR=..]  installs them, with man pages, completions and pages
+#   make install [PREFIX=..] [DESTDIR=..]  installs the program, the library, man pages, completions and the pages for users, and if
+#                                          there is a wasm-opt also the page for browsers
 #   make uninstall [PREFIX=..] ..          removes what was installed
 #
 # LIBDIR and ZSHDIR name other folders for the library and for zsh's completion. Results of `rt ci` are used if they are newer than
@@ -27,8 +28,12 @@ INCLUDE := $(AT)/include
 SHARE := $(AT)/share
 
 PROGRAM := crates/petool/out/petool
-# empty to install none
-WEBPAGE := $(O)/page/petool.html
+# the page that is installed, if there is one; what makes the form of its module for 32-bit addresses may be missing
+PAGE := $(O)/page/petool.html
+WASM_OPT := $(shell command -v wasm-opt 2>/dev/null)
+WEBPAGE := $(if $(WASM_OPT),$(PAGE))
+# said before anything is proved, and again at the end; not if it was asked for
+LEFT_OUT := $(if $(WEBPAGE),,$(if $(filter file,$(origin WEBPAGE)),the page for browsers is left out: it needs wasm-opt of binaryen))
 # folders too, since their times change if a source is removed
 SOURCES := crates.txt $(shell find crates/*/src crates/*/specs crates/*/proofs)
 SHELLS := bash zsh fish
@@ -48,7 +53,7 @@ petool: $(PROGRAM)
 # how many crates are proved at a time: as many as `-j` says
 JOBS = $(or $(patsubst -j%,%,$(filter -j%,$(MAKEFLAGS))),$(if $(filter -j,$(MAKEFLAGS)),$(shell nproc),1))
 # the calls of the library and of the page too, unless only the program is made
-WANTED := petool $(if $(filter petool,$(MAKECMDGOALS)),,petool_c $(if $(filter $(O)/page/petool.html,$(WEBPAGE)),petool_page))
+WANTED := petool $(if $(filter petool,$(MAKECMDGOALS)),,petool_c $(if $(filter $(PAGE),$(WEBPAGE)),petool_page))
 
 # it is touched, since sources that were only copied or checked out again are newer than the program that was proved from them
 crates/petool/out/petool: $(SOURCES)
@@ -65,9 +70,10 @@ PAGE_SOURCES := $(wildcard page/*.html page/*.css page/build.py page/src/*.mjs) 
 PACKAGE := $(wildcard bindings/js/*.mjs) $(addprefix bindings/js/,petool.d.ts package.json README.md)
 FEATURES := memory64 bulk-memory multivalue mutable-globals nontrapping-float-to-int sign-ext
 
-page: $(O)/page/petool.html $(O)/js/package.json
+page: $(PAGE) $(O)/js/package.json
 
 $(O)/js/petool64.wasm: $(SOURCES) scripts/prove.py
+	@$(if $(WASM_OPT),,echo 'the page needs wasm-opt of binaryen' >&2; exit 1)
 	rm -rf $(COPY)
 	mkdir -p $(COPY) $(O)/js
 	tar -c --exclude=out HANDLES crates scripts | tar -x -C $(COPY)
@@ -93,7 +99,7 @@ $(O)/js/package.json: $(PACKAGE) $(O)/js/petool64.wasm $(O)/js/petool32.wasm $(O
 	bindings/js/faults.py --into $(O)/js/fault.mjs
 	touch $@
 
-$(O)/page/petool.html: $(PAGE_SOURCES) $(PACKAGE) $(O)/js/petool32.wasm $(O)/js/faults.json
+$(PAGE): $(PAGE_SOURCES) $(PACKAGE) $(O)/js/petool32.wasm $(O)/js/faults.json
 	mkdir -p $(O)/page
 	page/build.py $(O)/js/petool32.wasm $(O)/js/faults.json $@
 
@@ -101,6 +107,10 @@ $(O)/page/petool.html: $(PAGE_SOURCES) $(PACKAGE) $(O)/js/petool32.wasm $(O)/js/
 $(O)/completions.%: anew
 	mkdir -p $(O)
 	python3 scripts/completions.py $* > $@
+
+ifneq ($(and $(filter install,$(MAKECMDGOALS)),$(LEFT_OUT)),)
+$(info $(LEFT_OUT))
+endif
 
 install: all $(WEBPAGE)
 	install -d $(BIN) $(LIB)/pkgconfig $(INCLUDE) $(SHARE)/man/man1 $(SHARE)/man/man3 $(SHARE)/doc/petool/docs \
@@ -119,6 +129,7 @@ install: all $(WEBPAGE)
 	install -m 644 $(O)/completions.zsh $(ZSH)/_petool
 	install -m 644 $(O)/completions.fish $(SHARE)/fish/vendor_completions.d/petool.fish
 	$(if $(WEBPAGE),install -D -m 644 $(WEBPAGE) $(SHARE)/petool/petool.html)
+	@$(if $(LEFT_OUT),echo '$(LEFT_OUT)')
 
 # the installed files, but not the folders, which others may use too
 uninstall:

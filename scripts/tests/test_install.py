@@ -29,7 +29,7 @@ FILES = {
     "share/doc/petool/docs/page.png",
 }
 # what a tree has besides its crates for `make install`
-INSTALLED_FROM = ("Makefile", "VERSION", "HANDLES", "README.md", "docs", "man", "describe", "scripts", "bindings/c")
+INSTALLED_FROM = ("Makefile", "VERSION", "HANDLES", "README.md", "docs", "man", "describe", "scripts", "bindings/c", "bindings/js", "page")
 CRATES = "low:\npetool: low\npetool_c staticlib: low\n"
 # it records each crate that it proves, and leaves what it makes of it
 RT = """#!/bin/sh
@@ -66,15 +66,25 @@ class Room(unittest.TestCase):
         # not the variables of a make that runs this
         self.environment = {name: it for name, it in os.environ.items() if name not in ("MAKEFLAGS", "MAKELEVEL", "O", "CALLS")}
 
-    def make(self, goal, *words, top=TOP):
+    def make(self, goal, *words, top=TOP, page=("WEBPAGE=",), status=0):
+        """Runs make, which by default installs no page unless the words name one, and returns what it says."""
         folders = [f"O={self.room / 'made'}", f"PREFIX={self.room / 'at'}"]
-        # no page, unless the words name one
-        command = ["make", "-C", top, goal, *folders, "WEBPAGE=", *words]
+        command = ["make", "-C", top, goal, *folders, *page, *words]
         run = subprocess.run(command, env=self.environment, stdout=subprocess.PIPE, stderr=subprocess.STDOUT, text=True)
-        self.assertEqual(run.returncode, 0, run.stdout)
+        self.assertEqual(run.returncode, status, run.stdout)
+        return run.stdout
 
     def find_first(self, kit):
         self.environment["PATH"] = f"{kit}:{self.environment['PATH']}"
+
+    def lose(self, command):
+        """Leaves PATH all commands but one."""
+        kept = self.room / "kept"
+        kept.mkdir()
+        for folder in filter(os.path.isdir, self.environment["PATH"].split(":")):
+            for name in set(os.listdir(folder)) - {command, *os.listdir(kept)}:
+                (kept / name).symlink_to(os.path.join(folder, name))
+        self.environment["PATH"] = str(kept)
 
     def installed(self, folder="at"):
         at = self.room / folder
@@ -171,6 +181,20 @@ class Proofs(Room):
         self.assertEqual(self.proved(), ["low", "petool", "petool_c"])
         self.assertEqual(self.proved(), [])
         self.assertEqual(self.installed(), FILES)
+
+    def test_without_wasm_opt_the_page_is_left_out_with_words_at_the_beginning_and_at_the_end(self):
+        self.lose("wasm-opt")
+        said = self.make("install", top=self.top, page=()).splitlines()
+        words = "the page for browsers is left out: it needs wasm-opt of binaryen"
+        self.assertEqual([at for at, line in enumerate(said) if line == words], [1, len(said) - 2], said)
+        self.assertEqual(self.installed(), FILES)
+        self.assertNotIn(words, self.make("install", top=self.top))
+
+    def test_without_wasm_opt_nothing_is_proved_for_the_page(self):
+        self.lose("wasm-opt")
+        said = self.make("page", top=self.top, page=(), status=2)
+        self.assertIn("\nthe page needs wasm-opt of binaryen\n", said)
+        self.assertFalse((self.kit / "log").exists())
 
     def test_nothing_is_proved_again_in_a_copied_tree(self):
         self.proved()
