@@ -28,7 +28,7 @@ MARKS = {".rt": "//!", ".rs": "//!", ".antt": "--"}
 #: The folders of a crate's wrong bodies, and what they are.
 EDITS = {
     "must-fail": "wrong bodies that the prover refuses",
-    "wrong": "wrong bodies that the prover refuses, which `scripts/wrong_bodies.py` tries",
+    "wrong": "wrong bodies that the prover refuses, which `bindings/test` tries",
 }
 #: The sources outside the crates: their folders, and their endings. The folders in MADE have none.
 OTHERS = ("bindings", "describe", "scripts")

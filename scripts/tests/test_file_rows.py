@@ -52,7 +52,7 @@ Bytes of a file.
 | [specs](../crates/low/specs) | `View.antt` |
 | [proofs](../crates/low/proofs) | modules of lemmas: 1 |
 | [must-fail](../crates/low/must-fail) | wrong bodies that the prover refuses: 2 |
-| [wrong](../crates/low/wrong) | wrong bodies that the prover refuses, which `scripts/wrong_bodies.py` tries: 1 |
+| [wrong](../crates/low/wrong) | wrong bodies that the prover refuses, which `bindings/test` tries: 1 |
 
 ## high
 

@@ -23,7 +23,7 @@ class Test(unittest.TestCase):
 MAKEFILE = "test:\n\t@[ -z \"$$LACKS\" ] || echo \"each: left out without $$LACKS\"; echo '1 passed, 0 failed'\n"
 SCRIPTS = (
     "describe/describe.py", "scripts/crates_svg.py", "scripts/file_rows.py", "scripts/docs_check.py",
-    "bindings/examples", "program",
+    "scripts/wrong_bodies.py", "bindings/examples", "program",
 )
 # what `make page` makes
 WEB = ("js/petool32.wasm", "page/petool.html")
@@ -89,6 +89,10 @@ class LeftOut(unittest.TestCase):
         self.assert_left_out("program", line, PETOOL_PROGRAM="/none")
         line = "what the benchmark counts: left out without program: there is no /none"
         self.assert_left_out("program", line, PETOOL_BENCHMARK="/none")
+
+    def test_a_library_that_was_proved_elsewhere(self):
+        line = "wrong bodies: left out without kit: CALLS names a library that was proved elsewhere"
+        self.assert_left_out("kit", line, CALLS="/none.a")
 
     def test_a_command_that_is_not_there(self):
         (self.tools / "cargo").unlink()
