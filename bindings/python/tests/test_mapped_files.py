@@ -174,6 +174,30 @@ class MappedFiles(OverFiles, unittest.TestCase):
         for name, file, _ in BOUND:
             self.assertEqual((self.folder / "in" / name).read_bytes(), file)
 
+    def test_two_images_are_not_written_to_one_file(self):
+        words = self.words(BOUND)
+        names = [name for name, _, _ in BOUND]
+        out = self.folder / "out"
+        # to a name of the folder, to a file that is not there yet, and by two ways into one folder
+        (out / "sub").symlink_to(".")
+        for links in ({1: names[0]}, {0: "end", 1: "end"}, {0: "sub/end", 1: "end"}):
+            with self.subTest(links):
+                for index, end in links.items():
+                    (out / names[index]).symlink_to(end)
+                done = run([PROGRAM, "map", "--write", "out", *words], cwd=self.folder)
+                self.assert_none_written(done, f"petool: out/{names[1]}: is the file of another image too\n", ["sub", *(names[index] for index in links)])
+                for index in links:
+                    (out / names[index]).unlink()
+        # each name of a file is replaced by itself
+        (out / "sub").unlink()
+        (out / names[0]).write_bytes(OLD)
+        os.link(out / names[0], out / names[1])
+        self.assert_written(BOUND)
+
+    def assert_none_written(self, done, words, left):
+        self.assertEqual((done.returncode, done.stdout, done.stderr.decode()), (3, b"", words))
+        self.assertEqual(sorted(os.listdir(self.folder / "out")), sorted(left))
+
     def test_a_file_is_replaced_once_the_new_one_is_whole(self):
         place = self.folder / "out" / "v.dll"
         place.write_bytes(OLD)

@@ -195,17 +195,30 @@ class Replaced(unittest.TestCase):
                     self.assertEqual(os.fstat(output.fileno()).st_nlink, 1)
                 self.assertIn(LINE.encode(), (self.folder / "b.dll").read_bytes())
 
-    def test_names_of_drafts_that_are_taken_are_left(self):
-        taken = [self.folder / f".petool-{number}.tmp" for number in range(99)]
+    def test_files_that_are_called_like_drafts_are_in_nobodys_way(self):
+        taken = [self.folder / f".petool-{number}.tmp" for number in range(200)]
         for file in taken:
             file.write_bytes(OLD)
         self.assert_replaced()
         self.assertEqual({file.read_bytes() for file in taken}, {OLD})
-        (self.folder / ".petool-99.tmp").write_bytes(OLD)
+
+    @unittest.skipUnless(os.geteuid() == 0, "left out without root: owners are those of other users")
+    @unittest.skipUnless(shutil.which("cc"), "left out without cc")
+    def test_a_link_in_place_of_the_draft_gives_no_file_away(self):
+        swap = str(self.folder / "swap.so")
+        source = pathlib.Path(__file__).with_name("swap.c")
+        subprocess.run(["cc", "-shared", "-fPIC", "-o", swap, str(source), "-ldl"], check=True)
+        other = self.folder / "other"
+        other.write_bytes(OLD)
+        other.chmod(0o600)
         self.new.write_bytes(OLD)
-        status, printed, complained = self.rebase()
-        self.assertEqual((status, printed, self.new.read_bytes()), (3, b"", OLD))
-        self.assertTrue(complained.startswith("petool: new.dll: writing failed: "), complained)
+        os.chown(self.new, 1234, 5678)
+        self.new.chmod(0o666)
+        self.rebase(env={**os.environ, "LD_PRELOAD": swap, "LEADS_TO": str(other)})
+        # the link took the place of the new file, which shows that it stood in that of the draft
+        self.assertTrue(self.new.is_symlink())
+        found = other.stat()
+        self.assertEqual((found.st_uid, found.st_gid, stat.S_IMODE(found.st_mode), other.read_bytes()), (0, 0, 0o600, OLD))
 
     def test_the_input_is_not_the_output(self):
         (self.folder / "b.dll").symlink_to("a.dll")

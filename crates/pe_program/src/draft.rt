@@ -4,13 +4,17 @@ ghost use Rattle.std.specs.Prelude.{◌≤◌, length, IfOk};
 
 use std::alloc::Allocator;
 use std::fs::{self, File, Metadata, OpenFile, OpenOptions, Permissions};
-use std::io::{self, Error, ErrorKind, Seek, SeekFrom, Write};
-use std::os::unix::fs::{MetadataExt, PermissionsExt, chown};
+use std::io::{self, Error, ErrorKind, Read, Seek, SeekFrom, Write};
+use std::os::fd::AsFd;
+use std::os::unix::fs::{MetadataExt, PermissionsExt, fchown};
 use std::path::{Path, PathBuf};
 use std::rt::Files;
 
 /// How many names are tried for a draft.
 const DRAFT_NAMES: u32 = 100;
+
+/// Where Linux gives random bytes. In a folder that others may write, whoever can tell a draft's name before can stand in its way.
+const RANDOM: &str = "/dev/urandom";
 
 /// As many zero bytes as a piece may have that is left out of the file.
 static ZEROS: [u8; 1 << 12] = [0; 1 << 12];
@@ -51,10 +55,19 @@ fn check_protection(rt: &impl Files, place: Path<'_>) -> io::Result<()> {
     }
 }
 
-/// A new file in the folder of a place, and its path.
+/// A number that nobody can foresee.
+fn random_number(rt: &impl Files) -> io::Result<u64> {
+    let mut bytes = [0; 8];
+    File::open(rt, RANDOM)?.read_exact(&mut bytes)?;
+    Ok(u64::from_le_bytes(bytes))
+}
+
+/// A new file in the folder of a place, and its path. Its name has a random number, or if the system gives none, how many names were
+/// tried before.
 fn new_file<R: Files + Alloc>(rt: &R, place: Path<'_>) -> io::Result<(R::File, PathBuf<R::A>)> {
-    for number in 0..DRAFT_NAMES {
-        let name = format!(in rt.alloc(); ".petool-{number}.tmp")?;
+    for tried in 0..DRAFT_NAMES {
+        let number = random_number(rt).unwrap_or(u64::from(tried));
+        let name = format!(in rt.alloc(); ".petool-{number:016x}.tmp")?;
         let path = place.with_file_name(rt.alloc(), name.as_str())?;
         match File::create_new(rt, path.as_path()) {
             Ok(file) => return Ok((file, path)),
@@ -74,14 +87,10 @@ fn mode_of(mode: u32, is_owner_kept: bool) -> u32 {
     (mode & 0o707) | ((mode & 0o007) << 3)
 }
 
-/// Gives a new file the owner and the group of the one that it replaces, if the system allows that, and its permissions.
-fn keep_permissions<R: Files>(
-    rt: &R,
-    file: &R::File,
-    path: Path<'_>,
-    old: &Metadata,
-) -> io::Result<()> {
-    let is_owner_kept = chown(rt, path, Some(old.uid()), Some(old.gid())).is_ok();
+/// Gives a new file the owner and the group of the one that it replaces, if the system allows that, and its permissions. It is named
+/// by what is open, and not by its path: whoever owns the folder may have put a link to another file there.
+fn keep_permissions<F: OpenFile + AsFd>(file: &F, old: &Metadata) -> io::Result<()> {
+    let is_owner_kept = fchown(file, Some(old.uid()), Some(old.gid())).is_ok();
     let mode = mode_of(old.permissions().mode(), is_owner_kept);
     file.set_permissions(Permissions::from_mode(mode))
 }
@@ -100,7 +109,7 @@ fn size_limit<R: Files + Alloc>(rt: &R) -> u64 {
     limits.lines().find_map(limit_in).unwrap_or(u64::MAX)
 }
 
-impl<F: Write + Seek + OpenFile + Drop, A: Allocator> Draft<F, A> {
+impl<F: Write + Seek + OpenFile + AsFd + Drop, A: Allocator> Draft<F, A> {
     /// Makes a draft for a place, with the permissions of the file there.
     pub fn new<R: Files<File = F> + Alloc<A = A>>(
         rt: &R,
@@ -125,11 +134,11 @@ impl<F: Write + Seek + OpenFile + Drop, A: Allocator> Draft<F, A> {
         }
     }
 
-    /// Gives it the permissions of the file at its place, if there is one.
+    /// Gives it the permissions of the file at its place, if there is one. No link is followed: the place is behind the last one.
     fn keep_permissions<R: Files<File = F>>(&self, rt: &R) -> io::Result<()> {
-        match fs::metadata(rt, self.place.as_path()) {
-            Ok(old) => keep_permissions(rt, &self.file, self.path.as_path(), &old),
-            Err(_) => Ok(()),
+        match fs::symlink_metadata(rt, self.place.as_path()) {
+            Ok(old) if old.is_file() => keep_permissions(&self.file, &old),
+            _ => Ok(()),
         }
     }
 

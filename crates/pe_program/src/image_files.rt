@@ -2,13 +2,20 @@
 
 use crate::messages::{refuse_map, refuse_memory};
 use crate::new_file::{refuse_target, refuse_word};
-use crate::statuses::{DONE, REFUSED};
+use crate::place::{Place, place_of};
+use crate::statuses::{DEVICE_FAILED, DONE, REFUSED};
 use crate::target::Target;
 use crate::word_bytes::{bytes_of, is_marked};
-use pe_tool::{Counted, MapError, MapFile, MappedImages, Policy, SetEntry};
+use pe_page::ShownName;
+use pe_space::{MapError, Policy, SetEntry};
+use pe_space_file::MappedImages;
+use pe_text::Counted;
+use pe_words::MapFile;
 use std::alloc::{AllocError, Allocator};
 use std::fs;
 use std::io::Error;
+use std::os::fd::AsFd;
+use std::os::unix::fs::MetadataExt;
 use std::path::{Path, PathBuf};
 use std::rt::Files;
 
@@ -61,6 +68,73 @@ fn refuse_files<R: Files + Eprint + Alloc>(rt: &R, folder: &str, files: &[MapFil
     None
 }
 
+/// Where a file is to be, once links are followed.
+#[derive(Drop)]
+struct Position<A: Allocator> {
+    /// The folder, by the numbers of the system.
+    device: u64,
+    node: u64,
+    path: PathBuf<A>,
+}
+
+impl<A: Allocator> Position<A> {
+    /// Whether it is that of the same file.
+    fn is_same(&self, other: &Position<A>) -> bool {
+        self.device == other.device
+            && self.node == other.node
+            && self.path.as_path().file_name() == other.path.as_path().file_name()
+    }
+}
+
+/// Where the file at a path is to be, if it is to be in a folder that there is.
+fn position_of<R: Files + Alloc>(rt: &R, target: &str) -> Option<Position<R::A>> {
+    let Ok(Place::Path(path)) = place_of(rt, target) else {
+        return None;
+    };
+    let folder = match path.as_path().parent() {
+        Some(folder) if !folder.as_str().is_empty() => folder,
+        _ => Path::new("."),
+    };
+    let found = fs::metadata(rt, folder).ok()?;
+    Some(Position {
+        device: found.dev(),
+        node: found.ino(),
+        path,
+    })
+}
+
+/// The path of a file of a folder that is to be where another is to be too, by links.
+fn shared_file<R: Files + Alloc>(
+    rt: &R,
+    folder: &str,
+    files: &[MapFile],
+) -> Result<Option<PathBuf<R::A>>, AllocError> {
+    let mut positions: Vec<Position<R::A>, R::A> = Vec::new(rt.alloc());
+    for file in files {
+        let path = path_of(rt.alloc(), folder, file)?;
+        if let Some(position) = position_of(rt, path.as_path().as_str()) {
+            if positions.iter().any(|other| other.is_same(&position)) {
+                return Ok(Some(path));
+            }
+            positions.push(position)?;
+        }
+    }
+    Ok(None)
+}
+
+/// Reports which file of a folder another image would replace again, and returns the exit status; `None` if each has its own.
+fn refuse_shared<R: Files + Eprint + Alloc>(rt: &R, folder: &str, files: &[MapFile]) -> Option<u8> {
+    match shared_file(rt, folder, files) {
+        Ok(Some(path)) => {
+            let name = ShownName(path.as_path().as_str().as_bytes());
+            let _ = eprintln!(rt; "petool: {name}: is the file of another image too");
+            Some(DEVICE_FAILED)
+        }
+        Ok(None) => None,
+        Err(_) => Some(refuse_memory(rt)),
+    }
+}
+
 /// Why there is no folder at a path, if there is none.
 fn folder_error(rt: &impl Files, path: &str) -> Option<Error> {
     match fs::metadata(rt, path) {
@@ -81,8 +155,10 @@ pub(crate) fn refuse_folder<R: Files + Eprint + Alloc>(
     if refusal.is_some() {
         return refusal;
     }
-    let error = folder_error(rt, folder)?;
-    Some(refuse_target(rt, folder.as_bytes(), error))
+    match folder_error(rt, folder) {
+        Some(error) => Some(refuse_target(rt, folder.as_bytes(), error)),
+        None => refuse_shared(rt, folder, files),
+    }
 }
 
 /// Writes an image to a file, and returns the exit status.
@@ -94,6 +170,7 @@ fn write_image<R: Files + Print + Eprint + Alloc>(
 ) -> u8
 where
     R::A: Copy,
+    R::File: AsFd,
 {
     let mut output = Target::new(rt, target);
     let answer = images.write_image(number, &mut Counted::new(&mut output));
@@ -120,6 +197,7 @@ fn write_each<R: Files + Print + Eprint + Alloc>(
 ) -> u8
 where
     R::A: Copy,
+    R::File: AsFd,
 {
     for (number, file) in (0..images.count()).zip(files) {
         let Ok(path) = path_of(rt.alloc(), folder, file) else {
@@ -158,6 +236,7 @@ pub(crate) fn write_images<R: Files + Print + Eprint + Alloc>(
 ) -> u8
 where
     R::A: Copy,
+    R::File: AsFd,
 {
     let Ok(images) = open_images(rt.alloc(), set, policy, is_delayed) else {
         return refuse_map(rt);

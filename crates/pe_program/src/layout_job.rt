@@ -9,12 +9,13 @@ use crate::new_file::{print_refusal, refuse_target, refuse_word, target_name};
 use crate::statuses::{DONE, REFUSED};
 use crate::target::Target;
 use crate::texts::Printed;
-use pe_tool::{
-    Counted, ImageFile, Outcome, Placed, ShownName, Sink, ToolError, lay_out_file, lay_out_parts,
-    size_fault,
-};
+use pe_layout_file::{ImageFile, lay_out_file, lay_out_parts};
+use pe_page::ShownName;
+use pe_reach::{Placed, size_fault};
+use pe_text::{Counted, Outcome, Sink, ToolError};
 use std::alloc::Allocator;
 use std::io::{Input, Read, Seek, Write};
+use std::os::fd::AsFd;
 use std::rt::Files;
 
 /// Writes the laid-out image of an open file of `size` bytes, if its first bytes have all headers and these no fault: then no more of
@@ -113,6 +114,7 @@ fn lay_out_input<R: Files + Print + Eprint + Alloc, S: Read + Drop>(
 ) -> u8
 where
     R::A: Copy,
+    R::File: AsFd,
 {
     let mut output = Target::new(rt, target);
     let size = file.size();
@@ -132,6 +134,7 @@ pub(crate) fn run_layout<R: Files + Input + Print + Eprint + Alloc>(
 ) -> u8
 where
     R::A: Copy,
+    R::File: AsFd,
 {
     let (Ok(from), Ok(to)) = (name_of(rt.alloc(), source), target_name(rt.alloc(), target)) else {
         return refuse_memory(rt);

@@ -9,14 +9,17 @@ use crate::messages::{
 use crate::statuses::DONE;
 use crate::texts::{MapReport, Printed, Text, print_text};
 use crate::word_bytes::bytes_of;
-use pe_tool::{
-    Counted, MapFile, Outcome, Policy, SetEntry, ToolError, fault_detail, map_report, read_enough,
-    read_whole, size_fault, status,
-};
+use pe_detail::fault_detail;
+use pe_map_lines::map_report;
+use pe_reach::{read_enough, size_fault};
+use pe_space::{Policy, SetEntry};
+use pe_text::{Counted, Outcome, ToolError, read_whole, status};
+use pe_words::MapFile;
 use pe_view::{Fault, View};
 use std::alloc::{AllocError, Allocator};
 use std::borrow::CowSlice;
 use std::io::{Input, Read};
+use std::os::fd::AsFd;
 use std::rt::Files;
 
 /// The fault of a file that has too few bytes for any image.
@@ -264,6 +267,7 @@ fn print_map<R: Files + Input + Print + Eprint + Alloc>(
 ) -> u8
 where
     R::A: Copy,
+    R::File: AsFd,
 {
     let mut large = Vec::new(rt.alloc());
     let contents = match read_files(rt, files, matches!(asked, Asked::Places(_)), &mut large) {
@@ -298,6 +302,7 @@ pub fn run_map<R: Files + Input + Print + Eprint + Alloc>(
 ) -> u8
 where
     R::A: Copy,
+    R::File: AsFd,
 {
     let report = MapReport {
         window,
@@ -316,6 +321,7 @@ pub fn run_map_unbound<R: Files + Input + Print + Eprint + Alloc>(
 ) -> u8
 where
     R::A: Copy,
+    R::File: AsFd,
 {
     let report = MapReport {
         window,
@@ -334,6 +340,7 @@ pub(crate) fn run_report<R: Files + Input + Print + Eprint + Alloc>(
 ) -> u8
 where
     R::A: Copy,
+    R::File: AsFd,
 {
     print_map(rt, policy, Asked::Report(report), None, files)
 }
@@ -349,6 +356,7 @@ pub(crate) fn run_map_write<R: Files + Input + Print + Eprint + Alloc>(
 ) -> u8
 where
     R::A: Copy,
+    R::File: AsFd,
 {
     match refuse_folder(rt, folder.path, files) {
         Some(status) => status,
@@ -365,6 +373,7 @@ pub(crate) fn run_at_map<R: Files + Input + Print + Eprint + Alloc>(
 ) -> u8
 where
     R::A: Copy,
+    R::File: AsFd,
 {
     print_map(rt, policy, Asked::Places(addresses), None, files)
 }

@@ -9,13 +9,13 @@ use crate::new_file::{refuse_target, refuse_word, target_name};
 use crate::statuses::DONE;
 use crate::target::Target;
 use crate::texts::Printed;
-use pe_tool::{
-    Counted, Outcome, ShownName, Sink, Source, ToolError, rebase, rebase_sized, rebase_summed,
-    rebase_summed_sized,
-};
+use pe_page::ShownName;
+use pe_text::{Counted, Outcome, Sink, Source, ToolError};
+use pe_tool::{rebase, rebase_sized, rebase_summed, rebase_summed_sized};
 use pe_view::View;
 use std::alloc::Allocator;
 use std::io::{Error, Input, Read, Seek, Write};
+use std::os::fd::AsFd;
 use std::rt::Files;
 use std::str;
 
@@ -161,6 +161,7 @@ fn rebase_file<R: Files + Print + Eprint + Alloc, S: Read + Drop>(
 ) -> u8
 where
     R::A: Copy,
+    R::File: AsFd,
 {
     let mut room = [0; LINE_ROOM];
     let mut output = Target::new(rt, target);
@@ -185,6 +186,7 @@ pub(crate) fn run_rebase<R: Files + Input + Print + Eprint + Alloc>(
 ) -> u8
 where
     R::A: Copy,
+    R::File: AsFd,
 {
     let (Ok(from), Ok(to)) = (name_of(rt.alloc(), source), target_name(rt.alloc(), target)) else {
         return refuse_memory(rt);

@@ -7,6 +7,7 @@ use crate::place::{Place, place_of};
 use std::alloc::Allocator;
 use std::fs;
 use std::io::{self, Error, ErrorKind, Write};
+use std::os::fd::AsFd;
 use std::rt::Files;
 
 /// What was opened.
@@ -35,7 +36,10 @@ pub(crate) struct Target<'a, R: Files + Alloc> {
 }
 
 /// Opens the output at a path.
-fn open<R: Files + Alloc>(rt: &R, path: &str) -> io::Result<Opened<R::File, R::A>> {
+fn open<R: Files + Alloc>(rt: &R, path: &str) -> io::Result<Opened<R::File, R::A>>
+where
+    R::File: AsFd,
+{
     if path == "-" {
         return Ok(Opened::Standard);
     }
@@ -46,11 +50,10 @@ fn open<R: Files + Alloc>(rt: &R, path: &str) -> io::Result<Opened<R::File, R::A
 }
 
 /// Puts a new file in its place if it is whole, or else removes it.
-fn close<R: Files + Alloc>(
-    rt: &R,
-    opened: Opened<R::File, R::A>,
-    is_whole: bool,
-) -> io::Result<()> {
+fn close<R: Files + Alloc>(rt: &R, opened: Opened<R::File, R::A>, is_whole: bool) -> io::Result<()>
+where
+    R::File: AsFd,
+{
     match opened {
         Opened::Beside(draft) if is_whole => draft.publish(rt),
         Opened::Beside(draft) => {
@@ -61,7 +64,10 @@ fn close<R: Files + Alloc>(
     }
 }
 
-impl<'a, R: Files + Print + Alloc> Target<'a, R> {
+impl<'a, R: Files + Print + Alloc> Target<'a, R>
+where
+    R::File: AsFd,
+{
     /// The output at this path, which is not opened yet.
     pub fn new(rt: &'a R, path: &'a str) -> Target<'a, R> {
         Target {
@@ -108,7 +114,10 @@ impl<'a, R: Files + Print + Alloc> Target<'a, R> {
     }
 }
 
-impl<R: Files + Print + Alloc> Write for Target<'_, R> {
+impl<R: Files + Print + Alloc> Write for Target<'_, R>
+where
+    R::File: AsFd,
+{
     fn write(&mut self, bytes: &[u8]) -> io::Result<usize> {
         let answer = self.open_and_write(bytes);
         match &answer {
