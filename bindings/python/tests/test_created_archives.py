@@ -125,6 +125,30 @@ class CreatedArchives(OverFiles, unittest.TestCase):
         self.assertEqual((os.stat(self.folder / "out.lib").st_mode & 0o777, sorted(os.listdir(self.folder))), (0o640, ["a.obj", "b.obj", "out.lib"]))
         self.assertNotIn(b"a.obj", one)
 
+    def test_an_archive_of_more_bytes_than_allowed(self):
+        # 64 symbols share a name of 1,000 bytes: each linker member has it 64 times
+        table = struct.pack("<IIIHHBB", 0, 4, 0, 1, 0, EXTERNAL, 0) * 64
+        header = struct.pack("<HHIIIHH", 0x8664, 1, 0, 60, 64, 0, 0)
+        section = b".text\0\0\0" + bytes(28) + struct.pack("<I", 0x60000020)
+        shared = header + section + table + struct.pack("<I", 1005) + b"s" * 1000 + b"\0"
+        (self.folder / "s.obj").write_bytes(shared)
+        first, second = 4 + 64 * 4 + 64 * 1001, 4 + 4 + 4 + 64 * 2 + 64 * 1001
+        size = 8 + sum(60 + it + it % 2 for it in (first, second, len(shared)))
+
+        def create(most):
+            return run([PROGRAM, "archive", "--create", "out.lib", "--within", most, "s.obj"], cwd=self.folder)
+
+        (self.folder / "out.lib").write_bytes(b"old")
+        done = create(f"{size - 1}")
+        words = f"petool: out.lib: the archive has {size} bytes, more than --within allows\n"
+        self.assertEqual((done.returncode, done.stdout, done.stderr.decode()), (1, b"", words))
+        self.assertEqual((self.folder / "out.lib").read_bytes(), b"old")
+        self.assertEqual(create(f"{size}").returncode, 0)
+        self.assertEqual((self.folder / "out.lib").stat().st_size, size)
+        done = run([PROGRAM, "archive", "--within", "1", "out.lib"], cwd=self.folder)
+        self.assertEqual((done.stdout, done.returncode), (b"", 2))
+        self.assertIn(b"invalid value '1' for '--within <BYTES>': it bounds the archive of --create", done.stderr)
+
     def refused(self, number, item, files, name, target="out.lib"):
         """The archive of files is refused by a fault of one of them, and the target is as it was."""
         (self.folder / "out.lib").write_bytes(b"old")

@@ -170,6 +170,18 @@ class Pages(FindingPages, unittest.TestCase):
             ["  other (1)", "    0x001040  Beep", "  a.dll (3)", "    0x0010a0  #7", "    0x0010a4  Sleep", "    0x0010a8  Beep"],
         )
         self.assertNotIn("Delay-loaded imports (4)", self.parts(TWO))
+
+    def test_the_slot_at_a_place(self):
+        for file, place, told in (
+            (TWO, 0x1040, "other Beep"), (TWO, 0x10A0, "a.dll #7"), (TWO, 0x10A7, "a.dll Sleep"), (TWO, 0x10A8, "a.dll Beep"), (TWO, 0x10AC, None),
+            (WIDE, 0x10AF, "a.dll Sleep"), (WIDE, 0x10B0, None),
+        ):
+            with self.subTest(place):
+                first = self.petool(file, "at", "a", f"{place:x}").stdout.decode().split("\n")[0]
+                self.assertEqual("  delay-load slot of " in first, told is not None, first)
+                self.assertTrue(told is None or f"  delay-load slot of {told}  " in first + "  ", first)
+
+    def test_no_import_has_no_rows(self):
         self.assertEqual([it for it in self.parts(image(13, 64, bytes(32)), "--imports") if it.startswith("Delay")], [])
 
 

@@ -106,6 +106,8 @@ class Resources(FindingPages, unittest.TestCase):
             ("  Company      W", with_version(version(string("CompanyName", "W"), fixed=b""))),
             ("  Product      P", with_version(version(string("ProductName", "P"), fixed=b""))),
             ("  Version      1.2.3.4, of the product 5.6.7.8", with_version(version())),
+            # a string of white space is none: the next one counts
+            ("  Company      W", with_version(version(string("CompanyName", " \t\xa0\u3000"), string("CompanyName", "W"), string("ProductName", " "), fixed=b""))),
         ]:
             self.assertEqual(self.parts(file)["Identity"], [row])
 
@@ -176,6 +178,35 @@ class Resources(FindingPages, unittest.TestCase):
             with self.subTest(word):
                 done = self.petool(NAMED, "resource", "a", word)
                 self.assertEqual((done.stdout, done.stderr, done.returncode), (data, b"", 0))
+
+    def test_a_type_that_is_a_text_like_a_word_of_winuser_is_in_quotes(self):
+        file = image(tree([("MANIFEST", leaf(b"a")), ("manifest", leaf(b"b")), ("manifests", leaf(b"c")),
+                           (5, [("manifest", [(0, (b"d", 0))])]), (24, leaf(b"e"))]))
+        listed = self.petool(file, "resource", "a").stdout.decode().splitlines()
+        paths = [line.split(" ")[0] for line in listed]
+        self.assertEqual(paths, ['"MANIFEST"/1/1033', '"manifest"/1/1033', "manifests/1/1033", "dialog/manifest/0", "manifest/1/1033"])
+        self.assertEqual([self.petool(file, "resource", "a", path).stdout for path in paths], [b"a", b"b", b"c", b"d", b"e"])
+        self.assertEqual(self.parts(file, "--resources")["Resources (5)"][::2], [
+            "  \"MANIFEST\"", "  \"manifest\"", "  manifests", "  dialog", "  manifest"])
+        at = int(listed[1].split(" ")[2], 16)
+        self.assertIn(b'  in leaf "manifest"/1/1033 +0x0\n', self.petool(file, "at", "a", f"{at:x}").stdout)
+
+    def test_a_number_is_no_text(self):
+        # where the name is the place of a text, its 32 bits are no number that an entry has
+        file = image(tree([("TEXT", [(7, [(9, (b"a", 0))])])]))
+        name = struct.unpack_from("<I", file, 0x210)[0]
+        self.assertGreaterEqual(name, TEXT)
+        self.assertEqual(self.petool(file, "resource", "a", f"{name}").returncode, 2)
+        self.assertEqual(self.petool(file, "resource", "a", "TEXT").stdout, b"a")
+
+    def test_a_list_that_is_cut(self):
+        whole = self.petool(NAMED, "resource", "a").stdout
+        done = self.petool(NAMED, "resource", "--most", "100", "a")
+        self.assertEqual((done.returncode, done.stdout.split(b"\n(cut")[0]), (5, whole[:100].rstrip(b"\n")))
+        self.assertEqual(self.petool(NAMED, "resource", "a", "--most", f"{len(whole)}").stdout, whole)
+        done = self.petool(NAMED, "resource", "--most", "100", "a", "TEXT")
+        self.assertEqual((done.stdout, done.returncode), (b"", 2))
+        self.assertIn(b"invalid value '100' for '--most <BYTES>': it does not go with LEAF", done.stderr)
 
     def test_a_leaf_that_is_not_there(self):
         for word in ["bitmap", "TEXT/1", "text", "\"16\"", "version/1/1031", "icon/ONE"]:

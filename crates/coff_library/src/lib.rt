@@ -30,4 +30,4 @@ mod tables;
 mod write;
 
 pub use new_member::NewMember;
-pub use write::{write_archive, write_archive_into};
+pub use write::{archive_len, write_archive, write_archive_into};

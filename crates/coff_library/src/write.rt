@@ -8,7 +8,7 @@ ghost use Rattle.pe_view.specs.declared.refusal.Refusal.{Refusal};
 ghost use Rattle.coff_library.specs.Members as format;
 ghost use Rattle.coff_library.specs.Members.{member_view};
 ghost use Rattle.coff_library.specs.ReadBack.{IsReadBack};
-ghost use Rattle.coff_library.specs.Sizes.{IsWritable};
+ghost use Rattle.coff_library.specs.Sizes.{IsWritable, archive_len, counted};
 ghost use Rattle.coff_library.specs.SymbolView.{symbol_view};
 ghost use Rattle.coff_library.specs.Symbols.{Symbol, symbols_of};
 ghost use Rattle.coff_library.specs.WriteFaults.{member_tests, write_tests};
@@ -148,6 +148,20 @@ pub fn write_archive<A: Allocator + Copy>(
     let size = archive_size(start, members) as usize;
     let bytes = write_parts(alloc, size, members, offsets.as_slice(), &mut symbols)?;
     Ok(bytes)
+}
+
+/// How many bytes the archive has that [`write_archive`] makes of members, or the first of faults 91 to 93, or out of memory. It takes
+/// the time and the memory of that call, but for the archive's own.
+pub fn archive_len<A: Allocator + Copy>(alloc: A, members: &[NewMember]) -> Result<u64, Refusal>
+    ensures exact { AnswersOrWants (write_tests (map member_view members.now)) (λ len. len ≡ counted (archive_len (map member_view members.now))) result }
+    ensures early { (fault : code_fault.Fault) → first_standing (member_tests (map member_view members.now)) ≡ Some fault → result ≡ Err (Refusal.Fault fault) }
+{
+    check_members(members)?;
+    let prefixed = prefixed_names(alloc, members)?;
+    let symbols = public_symbols(alloc, members, prefixed.as_slice())?;
+    let start = members_start(members, symbols.as_slice());
+    let _offsets = offsets_from(alloc, start, members)?;
+    Ok(archive_size(start, members))
 }
 
 /// Writes the archive of members into a buffer, as far as there is room, and returns how many bytes it has; or the first of faults 91

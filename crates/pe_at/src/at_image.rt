@@ -5,10 +5,12 @@ ghost use Rattle.pe_layout.specs.Layout.{image_of};
 ghost use Rattle.pe_reach.specs.WholeTables.{AreWholeTablesOf};
 
 use crate::placed_symbols::{PlacedSymbol, placed_symbols};
+use pe_delay::read_delay_imports;
 use pe_image::Tables;
 use pe_layout::Layout;
 use pe_reach::{ViewFile, read_whole_tables};
 use pe_resources::{Leaf, leaves};
+use pe_tables::Import;
 use std::alloc::{AllocError, Allocator};
 
 /// An image that is laid out, and what is read of it once for all places.
@@ -20,6 +22,8 @@ pub struct AtImage<'a, A: Allocator> {
     pub layout: Layout<'a>,
     /// Its tables, as far as they have no fault.
     pub tables: Tables<'a, A>,
+    /// Its delay-loaded imports.
+    pub delayed: Vec<Import<'a>, A>,
     /// The leaves of its resource tree.
     pub leaves: Vec<Leaf, A>,
     /// The symbols that name places in it, by their RVAs.
@@ -36,12 +40,14 @@ impl<'a, A: Allocator + Copy> AtImage<'a, A> {
         ensures { IfOk result (λ image. AreWholeTablesOf (image_of layout.entry) image.tables) }
     {
         let tables = read_whole_tables(alloc, &layout)?;
+        let delayed = read_delay_imports(alloc, &layout)?;
         let tree = leaves(alloc, &layout)?;
         let symbols = placed_symbols(alloc, file.beginning(), &layout.headers())?;
         Ok(AtImage {
             file,
             layout,
             tables,
+            delayed,
             leaves: tree.leaves,
             symbols,
         })

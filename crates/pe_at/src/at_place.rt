@@ -140,19 +140,43 @@ fn nearer_symbol_cells<'a>(
     symbol_cells(nearest_symbol(symbols, from, rva), u64::from(rva))
 }
 
-/// The import whose slot contains an RVA, like `  slot of KERNEL32.dll Sleep`.
-fn slot_cells<'a>(imports: &[Import<'a>], width: u32, rva: u32) -> [Cell<'a>; 4] {
+/// The first import whose slot contains an RVA.
+fn import_around<'a>(imports: &[Import<'a>], width: u32, rva: u32) -> Option<Import<'a>> {
     for import in imports {
         if is_within(rva, import.slot, width) {
-            return [
-                Plain(Text(b"  slot of ")),
-                Cell::Name(import.module),
-                Plain(Text(b" ")),
-                Cell::Key(import.key),
-            ];
+            return Some(*import);
         }
     }
-    [NOTHING; 4]
+    None
+}
+
+/// An import after some words, like `  slot of KERNEL32.dll Sleep`.
+fn import_cells<'a>(words: &'static [u8], import: Option<Import<'a>>) -> [Cell<'a>; 4] {
+    match import {
+        Some(import) => [
+            Plain(Text(words)),
+            Cell::Name(import.module),
+            Plain(Text(b" ")),
+            Cell::Key(import.key),
+        ],
+        None => [NOTHING; 4],
+    }
+}
+
+/// The import or the delay-loaded import whose slot contains an RVA.
+fn slot_cells<'a, A: Allocator + Copy>(image: &AtImage<'a, A>, rva: u32) -> [Cell<'a>; 4] {
+    let width = image.layout.slot_width();
+    let import = match &image.tables.imports {
+        Some(imports) => import_around(imports.as_slice(), width, rva),
+        None => None,
+    };
+    match import {
+        Some(_) => import_cells(b"  slot of ", import),
+        None => import_cells(
+            b"  delay-load slot of ",
+            import_around(image.delayed.as_slice(), width, rva),
+        ),
+    }
 }
 
 /// The target of an address in a field while the image is at its ImageBase, like ` that points to RVA 0x1350 .text+0x350`.
@@ -290,10 +314,7 @@ fn write_line<A: Allocator + Copy, W: Sink>(
         Some(exports) => export_cells(exports, first, rva),
         None => ([NOTHING; 5], None),
     };
-    let slot = match &tables.imports {
-        Some(imports) => slot_cells(imports, layout.slot_width(), rva),
-        None => [NOTHING; 4],
-    };
+    let slot = slot_cells(image, rva);
     let field = match &tables.fixups {
         Some(fixups) => field_cells(layout, names, fixups, rva),
         None => [NOTHING; 7],

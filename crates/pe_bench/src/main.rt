@@ -25,7 +25,7 @@ use crate::shape::round_seed;
 use crate::workloads::{
     run_awkward, run_map, run_objects, run_open, run_rebase, run_texts, run_written,
 };
-use pe_tool::{Counted, read_whole};
+use pe_text::{Counted, read_whole};
 use std::alloc::Global;
 use std::io::Input;
 use std::process::ExitCode;

@@ -1,9 +1,11 @@
 //! The output of the engines for a file.
 
 use crate::digest::Digest;
-use pe_tool::{
-    Counted, Outcome, ShowOptions, ToolError, check, dump, dump_object, json, show, status,
-};
+use coff_lines::dump_object;
+use pe_json::json;
+use pe_lines::{check, dump};
+use pe_show::{ShowOptions, show};
+use pe_text::{Counted, Outcome, ToolError, status};
 use std::alloc::Global;
 
 /// A page with all rows of tables. The benchmark names them itself, since it is also built over commits without the constant.

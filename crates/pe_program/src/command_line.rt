@@ -3,7 +3,10 @@
 use crate::messages::{STANDARD_OUTPUT, refuse_memory, tell_failure};
 use crate::statuses::{BAD_WORDS, DEVICE_FAILED, DONE};
 use crate::word_bytes::{bytes_of, string_of};
-use pe_tool::{ShownName, ToolError, WordsError, is_safe_text, parse_words};
+use pe_page::{ShownName, is_safe_text};
+use pe_text::ToolError;
+use pe_tool::parse_words;
+use pe_words::WordsError;
 use std::alloc::{AllocError, AllocFailed, Global};
 use std::env::{self, FillError};
 use std::io::ErrorKind;

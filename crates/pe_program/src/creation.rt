@@ -3,15 +3,20 @@
 use crate::input::{InputFile, name_of, open_file};
 use crate::messages::{refuse_memory, refuse_path, tell_failure, tell_fault};
 use crate::new_file::{print_refusal, refuse_target, refuse_word, target_name};
+use crate::statuses::REFUSED;
 use crate::target::Target;
 use crate::word_bytes::bytes_of;
-use pe_tool::{
-    Counted, NewMember, Outcome, ToolError, create_archive, read_whole, size_fault, status,
-};
-use pe_view::{Fault, Place};
+use coff_library::archive_len;
+use coff_library::NewMember;
+use coff_lines::create_archive;
+use pe_page::ShownName;
+use pe_reach::size_fault;
+use pe_text::{Counted, Outcome, ToolError, read_whole, status};
+use pe_view::{Fault, Place, Refusal};
 use std::alloc::{AllocError, Allocator};
 use std::borrow::CowSlice;
 use std::io::{Error, Input, Read};
+use std::os::fd::AsFd;
 use std::rt::Files;
 
 /// The fault of a member that ends too far on.
@@ -102,22 +107,65 @@ fn members_of<'a, A: Allocator>(
         .collect(alloc)
 }
 
-/// Writes the archive of files to the target, and returns the engine's result, and the system's error if the target failed.
-fn write_members<R: Files + Print + Alloc>(
-    rt: &R,
-    files: &[MemberFile<'_, R::A>],
-    target: &str,
-) -> (Result<Outcome, ToolError>, Option<Error>)
+/// How many bytes an archive of members has, if these are more than `most`. One that is refused has none.
+fn excess_of<A: Allocator + Copy>(
+    alloc: A,
+    members: &[NewMember],
+    most: u64,
+) -> Result<Option<u64>, AllocError> {
+    if most == u64::MAX {
+        return Ok(None);
+    }
+    match archive_len(alloc, members) {
+        Ok(len) => Ok((len > most).then_some(len)),
+        Err(Refusal::Fault(_)) => Ok(None),
+        Err(Refusal::Memory) => Err(AllocError),
+    }
+}
+
+/// What became of the archive of files.
+enum Created {
+    /// It has more bytes than allowed, and was not made.
+    Excess(u64),
+    /// The engine's result, and the system's error if the target failed.
+    Ran(Result<Outcome, ToolError>, Option<Error>),
+}
+
+/// Writes the archive of members to the target.
+fn write_members<R: Files + Print + Alloc>(rt: &R, members: &[NewMember], target: &str) -> Created
 where
     R::A: Copy,
+    R::File: AsFd,
 {
-    let Ok(members) = members_of(rt.alloc(), files) else {
-        return (Err(ToolError::Memory), None);
-    };
     let mut output = Target::new(rt, target);
-    let answer = create_archive(rt.alloc(), &members, &mut Counted::new(&mut output));
+    let answer = create_archive(rt.alloc(), members, &mut Counted::new(&mut output));
     let error = output.finish(matches!(answer, Ok(Outcome::Done)));
-    (answer, error)
+    Created::Ran(answer, error)
+}
+
+/// Writes the archive of files to the target, unless it has more than `most` bytes.
+fn create<R: Files + Print + Alloc>(
+    rt: &R,
+    most: u64,
+    files: &[MemberFile<'_, R::A>],
+    target: &str,
+) -> Result<Created, AllocError>
+where
+    R::A: Copy,
+    R::File: AsFd,
+{
+    let members = members_of(rt.alloc(), files)?;
+    match excess_of(rt.alloc(), &members, most)? {
+        Some(len) => Ok(Created::Excess(len)),
+        None => Ok(write_members(rt, &members, target)),
+    }
+}
+
+/// Reports that the archive would be larger than allowed, and returns the exit status.
+fn tell_size(rt: &impl Eprint, name: &[u8], len: u64) -> u8 {
+    let name = ShownName(name);
+    let _ = eprintln!(rt; "petool: {name}: the archive has {len} bytes, more than --within allows");
+    REFUSED
 }
 
 /// Reports by which fault of which file there is no archive, and returns the exit status. The line of the fault goes to standard
@@ -149,15 +197,16 @@ fn tell_archive<R: Files + Print + Eprint + Alloc>(
     files: &[String],
     name: &[u8],
     target: &str,
-    written: (Result<Outcome, ToolError>, Option<Error>),
+    created: Created,
 ) -> u8
 where
     R::A: Copy,
 {
-    match written {
-        (_, Some(error)) => refuse_target(rt, name, error),
-        (Ok(Outcome::Refused(fault)), None) => tell_refusal(rt, files, target, fault),
-        (answer, None) => {
+    match created {
+        Created::Excess(len) => tell_size(rt, name, len),
+        Created::Ran(_, Some(error)) => refuse_target(rt, name, error),
+        Created::Ran(Ok(Outcome::Refused(fault)), None) => tell_refusal(rt, files, target, fault),
+        Created::Ran(answer, None) => {
             if let Err(failure) = answer {
                 tell_failure(rt, name, failure, None);
             }
@@ -175,14 +224,16 @@ fn too_large(index: usize) -> Fault {
     }
 }
 
-/// Writes an archive of files, and returns the exit status.
+/// Writes an archive of files, unless it has more than `most` bytes, and returns the exit status.
 pub(crate) fn run_creation<R: Files + Input + Print + Eprint + Alloc>(
     rt: &R,
+    most: u64,
     target: &str,
     files: &[String],
 ) -> u8
 where
     R::A: Copy,
+    R::File: AsFd,
 {
     let Ok(name) = target_name(rt.alloc(), target) else {
         return refuse_memory(rt);
@@ -199,6 +250,8 @@ where
             Err(Unread::Told(status)) => return status,
         }
     }
-    let written = write_members(rt, &read, target);
-    tell_archive(rt, files, &name, target, written)
+    match create(rt, most, &read, target) {
+        Ok(created) => tell_archive(rt, files, &name, target, created),
+        Err(_) => refuse_memory(rt),
+    }
 }

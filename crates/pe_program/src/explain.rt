@@ -2,7 +2,7 @@
 
 use crate::messages::{STANDARD_OUTPUT, tell_failure};
 use crate::statuses::{BAD_WORDS, DEVICE_FAILED, DONE};
-use pe_tool::{FaultWords, ToolError, fault_words};
+use pe_text::{FaultWords, ToolError, fault_words};
 use std::io;
 
 /// A fault's number, what its words leave out, in sentences, and the files that have it.

@@ -6,10 +6,11 @@ use crate::messages::{refuse_memory, refuse_path};
 use crate::output::Output;
 use crate::statuses::{BAD_WORDS, REFUSED};
 use crate::texts::{NO_ROOM, OUTPUT_BUFFER, flushed};
-use pe_tool::{
-    Counted, Extracted, Form, MemberFile, Outcome, ShownName, ToolError, Wanted, extract,
-    extract_member, read_whole, size_fault,
-};
+use coff_lines::{MemberFile, extract_member};
+use pe_page::ShownName;
+use pe_reach::size_fault;
+use pe_resource_files::{Extracted, Form, Wanted, extract};
+use pe_text::{Counted, Outcome, ToolError, read_whole};
 use pe_view::Fault;
 use std::alloc::Allocator;
 use std::io::{self, BufWriter, Input, Read, Seek, Write};

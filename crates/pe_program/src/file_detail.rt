@@ -1,7 +1,9 @@
 //! The numbers that the rule of a fault compares, of a file that was refused.
 
 use crate::input::InputFile;
-use pe_tool::{Counted, Detail, fault_detail, read_view};
+use pe_detail::{Detail, fault_detail};
+use pe_reach::read_view;
+use pe_text::Counted;
 use pe_view::{Fault, View};
 use std::alloc::Allocator;
 use std::io::{Read, Seek};

@@ -5,7 +5,7 @@ use crate::input::{InputFile, name_of, open_file};
 use crate::messages::{STANDARD_OUTPUT, refuse_memory, refuse_path, tell_failure, tell_fault};
 use crate::statuses::{CUT, DONE, REFUSED};
 use crate::texts::{Engine, Printed, Text, print_text};
-use pe_tool::{Outcome, ToolError, status};
+use pe_text::{Outcome, ToolError, status};
 use std::io::{Input, Read, Seek};
 use std::rt::Files;
 

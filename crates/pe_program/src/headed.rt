@@ -1,6 +1,6 @@
 //! `Headed`: a writer that writes a heading before the first byte.
 
-use pe_tool::ShownName;
+use pe_page::ShownName;
 use std::io::{self, Write};
 
 /// What comes before the output for a file.

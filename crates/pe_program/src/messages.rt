@@ -1,7 +1,9 @@
 //! The messages on standard error.
 
 use crate::statuses::{DEVICE_FAILED, OUT_OF_MEMORY};
-use pe_tool::{Detail, DetailText, FaultText, FileKind, ShownName, ToolError, other_kind};
+use pe_detail::{Detail, DetailText};
+use pe_page::ShownName;
+use pe_text::{FaultText, FileKind, ToolError, other_kind};
 use pe_view::Fault;
 use std::fmt::{self, Display};
 use std::io::{Error, ErrorKind};

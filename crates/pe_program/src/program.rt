@@ -12,9 +12,13 @@ use crate::map_job::{run_at_map, run_map, run_map_unbound, run_map_write, run_re
 use crate::rebase_job::{NewFile, run_rebase};
 use crate::resource_job::run_resource;
 use crate::texts::{Engine, MapReport};
-use pe_tool::{Beyond, Colours, Job, JsonOptions, Page, ShowOptions, parse_words};
+use pe_json::Beyond;
+use pe_show::{Page, ShowOptions};
+use pe_tool::{Job, parse_words};
+use pe_words::{Colours, JsonOptions};
 use std::env::FillError;
 use std::io::Input;
+use std::os::fd::AsFd;
 use std::rt::{Env, Files};
 use std::str;
 
@@ -108,7 +112,10 @@ fn json_engine(options: Option<JsonOptions>) -> Engine<'static> {
 }
 
 /// Carries out the command line, and returns the exit status. Pages may have colours if standard output is a terminal.
-pub fn run<R: Files + Input + Env + Print + Eprint + AllocGlobal>(rt: &R, is_terminal: bool) -> u8 {
+pub fn run<R: Files + Input + Env + Print + Eprint + AllocGlobal>(rt: &R, is_terminal: bool) -> u8
+where
+    R::File: AsFd,
+{
     let words = match words_of(rt) {
         Ok(words) => words,
         Err(error) => return refuse_command_line(rt, error),
@@ -145,9 +152,16 @@ pub fn run<R: Files + Input + Env + Print + Eprint + AllocGlobal>(rt: &R, is_ter
                 addresses,
             },
         ) => run_at_map(rt, policy, &files, &addresses),
-        Ok(Job::Resource { file, leaf, is_raw }) => match leaf {
+        Ok(
+            Job::Resource {
+                most,
+                file,
+                leaf,
+                is_raw,
+            },
+        ) => match leaf {
             Some(leaf) => run_resource(rt, file.as_str(), leaf.as_str(), is_raw),
-            None => run_file(rt, Engine::Resources, None, file.as_str()),
+            None => run_file(rt, Engine::Resources, most, file.as_str()),
         },
         Ok(Job::Explain { number }) => run_explain(rt, number),
         Ok(Job::Dump { file }) => run_file(rt, Engine::Dump, None, file.as_str()),
@@ -173,7 +187,13 @@ pub fn run<R: Files + Input + Env + Print + Eprint + AllocGlobal>(rt: &R, is_ter
                 index,
             },
         ),
-        Ok(Job::ArchiveCreate { target, files }) => run_creation(rt, target.as_str(), &files),
+        Ok(
+            Job::ArchiveCreate {
+                most,
+                target,
+                files,
+            },
+        ) => run_creation(rt, most, target.as_str(), &files),
         Ok(
             Job::Map {
                 policy,

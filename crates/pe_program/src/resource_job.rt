@@ -3,7 +3,8 @@
 use crate::extraction::{Part, run_extraction};
 use crate::messages::refuse_memory;
 use crate::statuses::BAD_WORDS;
-use pe_tool::{Form, Wanted, Wish, resource_type_number};
+use pe_resource_files::{Form, Wanted, Wish};
+use pe_resource_pages::resource_type_number;
 use std::alloc::{AllocError, Allocator};
 use std::io::Input;
 use std::rt::Files;

@@ -1,4 +1,4 @@
-//! The exit statuses of the program. `pe_tool::status` returns that of an engine's result.
+//! The exit statuses of the program. `pe_text::status` returns that of an engine's result.
 
 /// The exit status if a command did its work, or help or the version was printed.
 pub(crate) const DONE: u8 = 0;

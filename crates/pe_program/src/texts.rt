@@ -4,16 +4,21 @@ ghost use Rattle.std.specs.Prelude.{◌-◌, ◌^◌, ◌<◌, ◌≤◌, OnOk};
 
 use crate::headed::{Headed, Heading};
 use crate::output::Output;
-use pe_tool::{
-    Beyond, Counted, Detail, FileKind, Outcome, Page, PartSource, Placed, Policy, SetEntry,
-    ShowOptions, Sink, Source, Spot, ToolError, ViewFile, archive_json, archive_json_text,
-    archive_text, at_each_sized, at_each_text, at_map, check_parts, check_sized, check_text,
-    dump_either_object_sized, dump_object_sized, dump_parts, dump_sized, dump_text,
-    either_object_text, fault_detail, file_kind, json_parts, json_sized, map_report,
-    map_report_delayed, map_report_unbound, object_text, print_line, read_up_to, read_whole,
-    resource_list_sized, resource_list_text, show_archive, show_archive_text, show_page_sized,
-    show_page_text, size_fault, sum_sized, sum_text, write_refusal,
-};
+use coff_archive_json::{archive_json, archive_json_text};
+use coff_archive_page::{show_archive, show_archive_text};
+use coff_lines::{archive_text, either_object_text, object_text};
+use pe_at::{Spot, at_each_sized, at_each_text};
+use pe_at_map::at_map;
+use pe_detail::{Detail, fault_detail};
+use pe_json::{Beyond, json_parts, json_sized, print_line};
+use pe_lines::{check_parts, check_sized, check_text, dump_parts, dump_sized, dump_text, sum_sized, sum_text};
+use pe_map_lines::{map_report, map_report_delayed, map_report_unbound};
+use pe_reach::{PartSource, Placed, ViewFile, size_fault};
+use pe_resource_files::{resource_list_sized, resource_list_text};
+use pe_show::{Page, ShowOptions, show_page_sized, show_page_text};
+use pe_space::{Policy, SetEntry};
+use pe_text::{Counted, FileKind, Outcome, Sink, Source, ToolError, file_kind, read_up_to, read_whole, write_refusal};
+use pe_tool::{dump_either_object_sized, dump_object_sized};
 use pe_view::{Fault, View};
 use std::alloc::Allocator;
 use std::io;
@@ -25,32 +30,32 @@ pub const OUTPUT_BUFFER: usize = 1 << 16;
 /// The engines that read one file.
 #[derive(Clone, Copy)]
 pub enum Engine<'e> {
-    /// `pe_tool::check`
+    /// `pe_lines::check`
     Check,
-    /// `pe_tool::dump`
+    /// `pe_lines::dump`
     Dump,
-    /// `pe_tool::dump_object`
+    /// `coff_lines::dump_object`
     Object,
-    /// `pe_tool::dump_either_object`
+    /// `coff_lines::dump_either_object`
     EitherObject,
-    /// `pe_tool::dump_archive`
+    /// `coff_lines::dump_archive`
     Archive,
-    /// `pe_tool::show_page`, or of an archive `pe_tool::show_archive`
+    /// `pe_show::show_page`, or of an archive `coff_archive_page::show_archive`
     Show {
         options: ShowOptions,
         /// How many columns pages have.
         width: usize,
     },
-    /// `pe_tool::json`, or of an archive `pe_tool::archive_json`
+    /// `pe_json::json`, or of an archive `coff_archive_json::archive_json`
     Json {
         /// What lines have beyond the profile.
         beyond: Option<Beyond>,
     },
-    /// `pe_tool::sum`
+    /// `pe_lines::sum`
     Sum,
-    /// `pe_tool::at_each`
+    /// `pe_at::at_each`
     At(&'e [Spot<'e>]),
-    /// `pe_tool::resource_list`
+    /// `pe_resource_files::resource_list`
     Resources,
 }
 

@@ -86,6 +86,9 @@ fn write_codes<W: Sink>(text: &mut TextWriter<W>, layout: &Layout, record: &ArmU
         return;
     }
     for row in 0..record.code_count().div_ceil(CODES_SHOWN) {
+        if text.has_failed() {
+            return;
+        }
         write_row(text, layout, record, row.saturating_mul(CODES_SHOWN));
     }
 }

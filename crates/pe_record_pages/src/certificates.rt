@@ -95,6 +95,9 @@ fn write_signers<W: Sink>(text: &mut TextWriter<W>, bytes: &[u8])
     ensures { AddsSome W.taken W.failures text.old text.new }
 {
     for signer in Signers::of(bytes) {
+        if text.has_failed() {
+            return;
+        }
         write_signer(text, &signer);
     }
 }
@@ -186,6 +189,9 @@ pub(crate) fn write_certificates<W: Sink>(text: &mut TextWriter<W>, file: View, 
 {
     let mut digests = FileDigests::none();
     for certificate in Certificates::of(file, headers) {
+        if text.has_failed() {
+            return;
+        }
         write_certificate(text, &certificate, file, headers, &mut digests);
     }
 }

@@ -155,6 +155,9 @@ pub fn write_debug<W: Sink>(text: &mut TextWriter<W>, options: &ShowOptions, ima
     write_heading(text, options, b"Debug directory", entries.len() as usize);
     text.text(b"   #  type                   RVA        file       bytes\n");
     for index in 0..entries.len() {
+        if text.has_failed() {
+            return;
+        }
         write_row(text, image.file, &entries, index);
     }
 }

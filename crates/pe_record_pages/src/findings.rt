@@ -126,6 +126,9 @@ fn write_each<W: Sink>(text: &mut TextWriter<W>, findings: &[Fault])
     ensures { AddsSome W.taken W.failures text.old text.new }
 {
     for finding in findings {
+        if text.has_failed() {
+            return;
+        }
         write_finding(text, finding);
     }
 }

@@ -220,6 +220,9 @@ fn write_each<W: Sink>(
 {
     text.text(b"  begin     end       unwind    place\n");
     for index in 0..functions.len() {
+        if text.has_failed() {
+            return;
+        }
         write_function(text, options, layout, names, functions, index);
     }
 }
@@ -237,6 +240,9 @@ fn write_each_arm<W: Sink>(
 {
     text.text(b"  begin     unwind             place\n");
     for index in 0..functions.len() {
+        if text.has_failed() {
+            return;
+        }
         write_arm_function(text, options, layout, names, functions, index);
     }
 }

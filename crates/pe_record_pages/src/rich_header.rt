@@ -67,6 +67,9 @@ fn write_pairs<W: Sink>(text: &mut TextWriter<W>, header: &RichHeader)
     ensures { AddsSome W.taken W.failures text.old text.new }
 {
     for index in 0..header.len() {
+        if text.has_failed() {
+            return;
+        }
         write_row(text, header, index);
     }
 }

@@ -122,6 +122,9 @@ fn write_callbacks<W: Sink>(text: &mut TextWriter<W>, layout: &Layout, names: &S
         return;
     };
     for index in 0..callbacks.len() {
+        if text.has_failed() {
+            return;
+        }
         write_callback(text, layout, names, &callbacks, index);
     }
 }

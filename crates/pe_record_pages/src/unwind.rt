@@ -256,6 +256,9 @@ fn write_operations<W: Sink>(
     ensures { AddsSome W.taken W.failures text.old text.new }
 {
     for read in information.operations(layout) {
+        if text.has_failed() {
+            return;
+        }
         write_read(text, information, &read);
     }
 }
@@ -316,6 +319,9 @@ fn write_chain<W: Sink>(text: &mut TextWriter<W>, layout: &Layout, function: &Fu
     ensures { AddsSome W.taken W.failures text.old text.new }
 {
     for link in Chain::of(layout, function) {
+        if text.has_failed() {
+            return;
+        }
         write_link(text, layout, &link);
     }
 }

@@ -1,5 +1,5 @@
 -- Which resource of an image is asked for.
-use Rattle.std.specs.Prelude.{ℕ, ◌==◌, ◌&&◌, Bool, true, false, List, Option, Some, None}
+use Rattle.std.specs.Prelude.{ℕ, ◌==◌, ◌&&◌, nat_lt, Bool, true, false, List, Option, Some, None}
 use Rattle.pe_layout.specs.Image.{LaidOut}
 use Rattle.pe_resources.specs.Texts.{name_text_of, is_text_of}
 use Rattle.pe_resources.specs.declared.leaf.Leaf.{Leaf}
@@ -11,11 +11,15 @@ use Rattle.pe_resource_files.specs.declared.wanted.Wanted.{Wanted}
 abbrev pub is_named : LaidOut → ℕ → List ℕ → Bool
 is_named i name text = is_text_of text (name_text_of i name)
 
+-- a name of an entry is this number: one of 2^31 or more is the place of a text
+abbrev pub is_numbered : ℕ → ℕ → Bool
+is_numbered name id = nat_lt name 0x80000000 && name == id
+
 -- an entry, if there is one, is called as wished
 abbrev pub is_wished : LaidOut → Option Wish → Option ℕ → Bool
 is_wished i None name = true
 is_wished i (Some wish) None = false
-is_wished i (Some (Id id)) (Some name) = name == id
+is_wished i (Some (Id id)) (Some name) = is_numbered name id
 is_wished i (Some (Text text)) (Some name) = is_named i name text.now
 
 -- a leaf is the resource that is wanted

@@ -45,6 +45,9 @@ fn write_leaves<W: Sink>(text: &mut TextWriter<W>, layout: &Layout, leaves: &[Le
     ensures { AddsSome W.taken W.failures text.old text.new }
 {
     for leaf in leaves {
+        if text.has_failed() {
+            return;
+        }
         write_leaf(text, layout, leaf);
     }
 }

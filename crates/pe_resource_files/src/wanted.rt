@@ -10,7 +10,7 @@ use pe_resources::{Leaf, name_text};
 /// What an entry of the resource tree is to be called.
 #[derive(Clone, Copy, Debug, PartialEq, Eq)]
 pub enum Wish<'w> {
-    /// By a number.
+    /// By a number. No entry is called by one of 2^31 or more: there a name is the place of a text.
     Id(u32),
     /// By a text, whose UTF-16 units are given by their bytes.
     Text(&'w [u8]),
@@ -42,7 +42,7 @@ fn is_wished(layout: &Layout, wish: Option<Wish>, name: Option<u32>) -> bool
     match (wish, name) {
         (None, _) => true,
         (Some(_), None) => false,
-        (Some(Wish::Id(id)), Some(name)) => name == id,
+        (Some(Wish::Id(id)), Some(name)) => name < 0x8000_0000 && name == id,
         (Some(Wish::Text(text)), Some(name)) => is_text(layout, name, text),
     }
 }

@@ -113,6 +113,9 @@ fn write_leaves<W: Sink>(text: &mut TextWriter<W>, layout: &Layout, leaves: &[Le
 {
     let mut before = None;
     for leaf in leaves {
+        if text.has_failed() {
+            return;
+        }
         write_leaf(text, layout, before, leaf);
         before = leaf.path.kind;
     }

@@ -63,6 +63,9 @@ fn write_lines<W: Sink>(text: &mut TextWriter<W>, lines: &[u8])
 {
     let mut at = 0;
     while at < lines.len() {
+        if text.has_failed() {
+            return;
+        }
         let len = line_len(&lines[at..]);
         write_line(text, &lines[at..at + len]);
         at += len;

@@ -81,6 +81,9 @@ fn write_strings<W: Sink>(text: &mut TextWriter<W>, version: &[u8])
     ensures { AddsSome W.taken W.failures text.old text.new }
 {
     for string in version_strings(version) {
+        if text.has_failed() {
+            return;
+        }
         write_string(text, &string);
     }
 }

@@ -152,6 +152,9 @@ fn write_names<A: Allocator + Copy, W: Sink>(
     ensures { AddsSome W.taken W.failures text.old text.new }
 {
     for (place, (_, index)) in names.iter().enumerate() {
+        if text.has_failed() {
+            return;
+        }
         let name = match exports.names().get(*index) {
             Some((name, _)) => name,
             None => &b""[..],
@@ -184,6 +187,9 @@ pub(crate) fn write_exports<A: Allocator + Copy, W: Sink>(
     let widths = widths_of(exports.ordinals(), layout, sections);
     write_heading(text, options, b"Exports", exports.ordinals().len());
     for (ordinal, target) in exports.ordinals() {
+        if text.has_failed() {
+            return;
+        }
         let shown = shown_of(layout, sections, target);
         write_target(text, &widths, *ordinal, &shown);
         let names = names_by_ordinal.of(*ordinal);

@@ -100,6 +100,9 @@ fn write_page<W: Sink>(text: &mut TextWriter<W>, width: u8, fixups: &[Fixup])
     ensures { AddsSome W.taken W.failures text.old text.new }
 {
     for row in fixups.chunks(FIELDS_SHOWN) {
+        if text.has_failed() {
+            return;
+        }
         write_row(text, width, row);
     }
 }
@@ -124,6 +127,9 @@ pub(crate) fn write_fixups<A: Allocator + Copy, W: Sink>(
     write_heading(text, options, b"Base relocations", fixups.len());
     let mut at = 0;
     while at < fixups.len() {
+        if text.has_failed() {
+            return;
+        }
         let len = page_len(&fixups[at..]);
         write_page(text, width, &fixups[at..at + len]);
         at += len;

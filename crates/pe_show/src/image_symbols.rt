@@ -48,6 +48,9 @@ fn write_rows<A: Allocator + Copy, W: Sink>(
     ensures { AddsSome W.taken W.failures text.old text.new }
 {
     for (index, symbol) in symbols {
+        if text.has_failed() {
+            return;
+        }
         let wide = symbol.wide();
         let section = section_name(names, wide.section);
         write_symbol(

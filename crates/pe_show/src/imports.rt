@@ -67,6 +67,9 @@ fn write_module<W: Sink>(text: &mut TextWriter<W>, width: u8, imports: &[Import]
         ],
     );
     for import in imports {
+        if text.has_failed() {
+            return;
+        }
         write_import(text, width, import);
     }
 }
@@ -88,6 +91,9 @@ fn write_listed<W: Sink>(
     write_heading(text, options, title, imports.len());
     let mut at = 0;
     while at < imports.len() {
+        if text.has_failed() {
+            return;
+        }
         let len = module_len(&imports[at..]);
         write_module(text, width, &imports[at..at + len]);
         at += len;

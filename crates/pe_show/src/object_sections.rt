@@ -108,6 +108,9 @@ pub(crate) fn write_sections<W: Sink>(
         ],
     );
     for (index, section) in sections.iter().enumerate() {
+        if text.has_failed() {
+            return;
+        }
         write_section(text, page, &widths, index, section);
     }
 }
@@ -219,6 +222,9 @@ fn write_section_relocations<A: Allocator + Copy, W: Sink>(
     let (pointer, base) = (pointer_of(object, place), section.virtual_address);
     let (_, in_file) = sizes_of(&section.raw);
     for index in 0..relocations.len() {
+        if text.has_failed() {
+            return;
+        }
         let relocation = relocations.get(index).unwrap();
         let file = field_offset(pointer, base, in_file, relocation.address);
         let type_name = relocation_type_name(object.machine(), relocation.kind);

@@ -140,6 +140,9 @@ pub(crate) fn write_symbols<A: Allocator + Copy, W: Sink>(
     let widths = widths_of(object, sections);
     write_heading(text, options, b"Symbols", object.symbol_count());
     for (index, symbol) in object.each_symbol(alloc) {
+        if text.has_failed() {
+            return;
+        }
         let section = section_words(sections, symbol.section);
         write_symbol(
             text,

@@ -14,15 +14,8 @@ use pe_layout::Layout;
 use pe_records::Function;
 use pe_view::{Fault, Place};
 
-/// Flags of unwind information (x64 exception handling, struct UNWIND_INFO).
-pub mod unwind_flag {
-    /// A handler is called when an exception is dispatched.
-    pub const EHANDLER: u8 = 1;
-    /// A handler is called when the stack is unwound.
-    pub const UHANDLER: u8 = 2;
-    /// The unwind information goes on with that of another function.
-    pub const CHAININFO: u8 = 4;
-}
+/// The flag CHAININFO: the unwind information goes on with that of another function.
+const CHAININFO: u8 = 4;
 
 /// The unwind information of a function of an AMD64 image (x64 exception handling, struct UNWIND_INFO).
 #[derive(Clone, Copy, Debug, PartialEq, Eq)]
@@ -31,7 +24,8 @@ pub struct UnwindInformation {
     pub rva: u32,
     /// The version of its format: 1 and 2 are known.
     pub version: u8,
-    /// Its flags, as in [`unwind_flag`].
+    /// Its flags: 1 EHANDLER, a handler is called when an exception is dispatched; 2 UHANDLER, one is called when the stack is unwound;
+    /// 4 CHAININFO, it goes on with that of another function.
     pub flags: u8,
     /// The size of the function's prologue in bytes.
     pub prologue: u8,
@@ -111,16 +105,14 @@ impl UnwindInformation {
     fn is_chained(&self) -> bool
         ensures { result ≡ is_chained self.now }
     {
-        self.has_known_version() && self.flags / unwind_flag::CHAININFO % 2 == 1
+        self.has_known_version() && self.flags / CHAININFO % 2 == 1
     }
 
     /// Whether the RVA of a handler follows its codes.
     fn is_handled(&self) -> bool
         ensures { result ≡ is_handled self.now }
     {
-        self.has_known_version()
-            && self.flags / unwind_flag::CHAININFO % 2 != 1
-            && self.flags % 4 != 0
+        self.has_known_version() && self.flags / CHAININFO % 2 != 1 && self.flags % 4 != 0
     }
 
     /// The RVA after its codes, whose slots are padded to an even count.

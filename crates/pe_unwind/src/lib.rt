@@ -33,7 +33,7 @@ mod operations;
 
 pub use arm_unwind::ArmUnwind;
 pub use chain::Chain;
-pub use information::{UnwindInformation, unwind_flag};
+pub use information::UnwindInformation;
 pub use names::{operation_name, register_name};
 pub use operation::{Operation, operation_code};
 pub use operations::Operations;

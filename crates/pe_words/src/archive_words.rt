@@ -3,6 +3,7 @@
 use crate::builders::{argument, with_argument};
 use crate::file_words::files_of;
 use crate::job::Job;
+use crate::layout_words::{most_of, within_option};
 use crate::word_values::{BadValue, NoJob};
 use clap::{ArgMatches, Command};
 use std::alloc::{AllocError, Global};
@@ -31,7 +32,8 @@ pub(crate) fn with_member_options<'a>(
     let target = argument(alloc, "create", CREATE)
         .long("create")
         .value_name("OUT");
-    with_argument(with_argument(with_argument(command, name), index), target)
+    let command = with_argument(with_argument(with_argument(command, name), index), target);
+    with_argument(command, within_option(alloc))
 }
 
 /// An invalid value of `--index`.
@@ -84,19 +86,42 @@ fn other_option<'a>(found: &ArgMatches<'a>) -> Option<BadValue<'a>> {
     })
 }
 
+/// The job of `archive --create`, which writes at most `most` bytes.
+fn limited_creation<P>(
+    alloc: Global,
+    found: &ArgMatches<'_>,
+    target: &str,
+    most: u64,
+) -> Result<Job<P>, AllocError> {
+    Ok(Job::ArchiveCreate {
+        most,
+        target: String::from_str(alloc, target)?,
+        files: files_of(alloc, found)?,
+    })
+}
+
 /// The job of `archive --create`.
 fn create_job<'a, P>(
     alloc: Global,
     found: &ArgMatches<'a>,
     target: &str,
 ) -> Result<Job<P>, NoJob<'a>> {
-    match other_option(found) {
-        Some(bad) => Err(NoJob::Bad(bad)),
-        None => Ok(Job::ArchiveCreate {
-            target: String::from_str(alloc, target)?,
-            files: files_of(alloc, found)?,
-        }),
+    if let Some(bad) = other_option(found) {
+        return Err(NoJob::Bad(bad));
     }
+    match most_of(found) {
+        Ok(most) => Ok(limited_creation(alloc, found, target, most)?),
+        Err(bad) => Err(NoJob::Bad(bad)),
+    }
+}
+
+/// The option `--within`, with its value, if it stands without `--create`.
+fn lone_within<'a>(found: &ArgMatches<'a>) -> Option<BadValue<'a>> {
+    Some(BadValue {
+        value: found.get_str("within")?,
+        argument: "--within <BYTES>",
+        reason: "it bounds the archive of --create",
+    })
 }
 
 /// The job of `archive` without a member.
@@ -119,6 +144,9 @@ pub(crate) fn archive_job<'a, P>(
 ) -> Result<Job<P>, NoJob<'a>> {
     if let Some(target) = found.get_str("create") {
         return create_job(alloc, found, target);
+    }
+    if let Some(bad) = lone_within(found) {
+        return Err(NoJob::Bad(bad));
     }
     let file = only_file(alloc, found)?;
     let Some(name) = found.get_str("extract") else {

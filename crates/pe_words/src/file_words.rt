@@ -162,18 +162,23 @@ const SHOW_OPTIONS: [(&str, &str); 12] = [
     ("all", "Prints all of these"),
 ];
 
+/// An argument that may be given several times.
+fn several<'a>(argument: Arg<'a>) -> Arg<'a> {
+    argument.action(ArgAction::Append).num_args(1..)
+}
+
 /// The argument for the files of a command.
 fn file_argument<'a>(alloc: Global, row: FileCommand) -> Arg<'a> {
     let argument = required_argument(alloc, "FILE", row.file);
     if row.takes_several {
-        argument.action(ArgAction::Append).num_args(1..)
+        several(argument)
     } else {
         argument
     }
 }
 
 /// The option `--most`.
-fn most_option<'a>(alloc: Global) -> Arg<'a> {
+pub(crate) fn most_option<'a>(alloc: Global) -> Arg<'a> {
     argument(alloc, "most", MOST)
         .long("most")
         .value_name("BYTES")
@@ -231,6 +236,7 @@ pub(crate) fn usage_of(name: &str) -> &'static str {
         "dump" => "petool dump",
         "object" => "petool object",
         "archive" => "petool archive",
+        "resource" => "petool resource",
         _ => "petool json",
     }
 }
@@ -302,7 +308,7 @@ fn colours_of<'a>(found: &ArgMatches<'a>) -> Result<Colours, BadValue<'a>>
 }
 
 /// The number of bytes given by `--most`, if any.
-fn most_of<'a>(found: &ArgMatches<'a>) -> Result<Option<u64>, BadValue<'a>> {
+pub(crate) fn most_of<'a>(found: &ArgMatches<'a>) -> Result<Option<u64>, BadValue<'a>> {
     match found.get_str("most") {
         Some(value) => Ok(Some(byte_count(value, "--most <BYTES>")?)),
         None => Ok(None),

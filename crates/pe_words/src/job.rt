@@ -87,9 +87,10 @@ pub enum Job<P> {
         files: Vec<MapFile>,
         addresses: Vec<u64>,
     },
-    /// `resource FILE`: write a line for each resource of an image; `resource FILE LEAF`: write one as a file, or as it stands in the
-    /// image.
+    /// `resource FILE`: write a line for each resource of an image, with at most this many bytes; `resource FILE LEAF`: write one as a
+    /// file, or as it stands in the image.
     Resource {
+        most: Option<u64>,
         file: String,
         leaf: Option<String>,
         is_raw: bool,
@@ -131,8 +132,9 @@ pub enum Job<P> {
         name: String,
         index: u64,
     },
-    /// `archive --create OUT FILE...`: write an archive of these files.
+    /// `archive --create OUT FILE...`: write an archive of these files, if it has at most this many bytes.
     ArchiveCreate {
+        most: u64,
         /// The path of the archive.
         target: String,
         files: Vec<String>,

@@ -201,7 +201,7 @@ fn no_command(alloc: Global) -> WordsError {
     }
 }
 
-/// The text to print for an invalid value of a file command.
+/// The text to print for an invalid value of a file command, or of `resource`.
 fn file_refusal(alloc: Global, name: &str, bad: BadValue<'_>) -> WordsError {
     match command_named(alloc, name) {
         Some(Ok(command)) => value_refusal(alloc, command, usage_of(name), bad),
@@ -223,6 +223,15 @@ fn files_job<P: Copy>(
     }
 }
 
+/// The job of the words of `resource`.
+fn one_resource_job<P: Copy>(alloc: Global, found: &ArgMatches<'_>) -> Result<Job<P>, WordsError> {
+    match resource_job(alloc, found) {
+        Ok(job) => Ok(job),
+        Err(NoJob::Bad(bad)) => Err(file_refusal(alloc, "resource", bad)),
+        Err(NoJob::Memory) => Err(WordsError::Memory),
+    }
+}
+
 /// The job of the words of a command.
 fn job_of<P: Copy>(
     alloc: Global,
@@ -238,7 +247,7 @@ fn job_of<P: Copy>(
         "at" if found.get_flag("map") => at_map_job(alloc, found, known),
         "at" => at_job(alloc, found),
         "explain" => explain_job(alloc, found),
-        "resource" => Ok(resource_job(alloc, found)?),
+        "resource" => one_resource_job(alloc, found),
         _ => files_job(alloc, name, found),
     }
 }

@@ -1,9 +1,10 @@
 //! Command lines, and their jobs.
 
 use crate::numbers::bytes_of;
-use pe_tool::{
-    AtPlace, Colours, Job, JsonOptions, MapFile, Policy, ShowOptions, WordsError, parse_words,
-};
+use pe_show::ShowOptions;
+use pe_space::Policy;
+use pe_tool::{Job, parse_words};
+use pe_words::{AtPlace, Colours, JsonOptions, MapFile, WordsError};
 use std::alloc::Global;
 use std::str;
 
@@ -173,9 +174,12 @@ fn print_job<R: Print>(rt: &R, job: &Job) -> Option<()> {
             files,
             addresses,
         } => print_at_map(rt, *policy, files, addresses),
-        Job::Resource { file, leaf, is_raw } => println!(rt;
-            "resource {file} {leaf:?} {is_raw}"
-        ).ok(),
+        Job::Resource {
+            most,
+            file,
+            leaf,
+            is_raw,
+        } => println!(rt; "resource {most:?} of {file} {leaf:?} {is_raw}").ok(),
         Job::Explain { number } => println!(rt; "explain {number:?}").ok(),
         Job::Dump { file } => println!(rt; "dump {file}").ok(),
         Job::DumpMost { most, file } => println!(rt; "dump {most} of {file}").ok(),
@@ -189,8 +193,12 @@ fn print_job<R: Print>(rt: &R, job: &Job) -> Option<()> {
         Job::ArchiveMember { file, name, index } => println!(rt;
             "member {index} of {name:?} of {file}"
         ).ok(),
-        Job::ArchiveCreate { target, files } => {
-            println!(rt; "archive into {target}").ok()?;
+        Job::ArchiveCreate {
+            most,
+            target,
+            files,
+        } => {
+            println!(rt; "archive {most} into {target}").ok()?;
             print_files(rt, "of", files)
         }
         Job::Map {

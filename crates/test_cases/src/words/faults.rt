@@ -1,7 +1,7 @@
 //! Faults in words, at places of each kind.
 
 use crate::numbers::number_of;
-use pe_tool::FaultText;
+use pe_text::FaultText;
 use pe_view::{Fault, Place};
 
 /// The place described by a word and a number.

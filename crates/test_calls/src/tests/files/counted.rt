@@ -1,7 +1,7 @@
 //! Readers and writers of std as devices.
 
 use crate::tests::asserts::{assert_holds, assert_number};
-use pe_tool::{Counted, Failed, Sink, Source};
+use pe_text::{Counted, Failed, Sink, Source};
 
 #[test]
 fn a_reader_gives_its_bytes_and_then_none(rt: HostRuntime) {

@@ -1,7 +1,7 @@
 //! The devices of tests: a reader and a writer over memory, which work in steps and fail.
 
 use crate::tests::asserts::{assert_holds, assert_number};
-use pe_tool::{Failed, Sink, Source};
+use pe_text::{Failed, Sink, Source};
 use pe_vectors::{StepReader, StepWriter};
 use std::process::Abort;
 

@@ -2,10 +2,14 @@
 
 ghost use Rattle.std.specs.Prelude.{◌≡◌, ◌<◌};
 
-use pe_tool::{
-    Outcome, Policy, SetEntry, ShowOptions, ToolError, at, check, dump, dump_object, json,
-    map_report, show,
-};
+use coff_lines::dump_object;
+use pe_at::at;
+use pe_json::json;
+use pe_lines::{check, dump};
+use pe_map_lines::map_report;
+use pe_show::{ShowOptions, show};
+use pe_space::{Policy, SetEntry};
+use pe_text::{Outcome, ToolError};
 use pe_vectors::{StepReader, StepWriter};
 use pe_view::Place;
 use std::alloc::{AllocError, Allocator, Global};

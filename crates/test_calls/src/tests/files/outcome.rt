@@ -1,7 +1,7 @@
 //! The exit status and the message of each result of an engine.
 
 use crate::tests::asserts::assert_holds;
-use pe_tool::{Outcome, ToolError, status};
+use pe_text::{Outcome, ToolError, status};
 use pe_view::{Fault, Place};
 
 /// An engine's result, and its exit status.

@@ -1,7 +1,8 @@
 //! Files for other bases: the output of the engine, also over devices that fail.
 
 use crate::tests::asserts::assert_holds;
-use pe_tool::{Outcome, Sink, ToolError, rebase, status};
+use pe_text::{Outcome, Sink, ToolError, status};
+use pe_tool::rebase;
 use pe_vectors::files::{Vector, file_of};
 use pe_vectors::{StepReader, StepWriter};
 use pe_view::{Fault, Place};

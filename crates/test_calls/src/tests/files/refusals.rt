@@ -18,7 +18,7 @@ use pe_tables::{
     Fixup, FixupKind, Import, Key, TableError, Target, ascending, encode_fixups, read_exports,
     read_fixups, read_imports,
 };
-use pe_tool::{Outcome, ToolError, read_whole};
+use pe_text::{Outcome, ToolError, read_whole};
 use pe_vectors::StepReader;
 use pe_vectors::files::{Vector, file_of};
 use pe_vectors::members::{A, B, C, files_of, names_of, repeated, set_of};

@@ -5,7 +5,10 @@ ghost use Rattle.std.specs.Prelude.{◌≡◌, ◌<◌};
 
 use super::engines::{Answered, Devices, Engine, report_over, run, steps_of};
 use crate::tests::asserts::assert_holds;
-use pe_tool::{Outcome, Policy, SetEntry, ToolError, check, map_report, status};
+use pe_lines::check;
+use pe_map_lines::map_report;
+use pe_space::{Policy, SetEntry};
+use pe_text::{Outcome, ToolError, status};
 use pe_vectors::files::{Piece, VECTORS, Vector, file_of, put_pieces};
 use pe_vectors::members::{A, B, C, files_of, set_of};
 use pe_vectors::objects::O1;
