@@ -161,16 +161,25 @@ class Trust:
             yield 223, self.entry
         if self.table[0] % 8:
             yield 224, self.entry
+        if self.message() is None:
+            yield 225, self.entry
 
     def message(self):
-        """What a signature signs: all but CheckSum, the entry of directory 4 and the certificate table; None if these are not apart."""
-        if self.table is None:
-            return self.file[: self.pe + 88] + self.file[self.pe + 92 :]
-        start, end = (self.table[0], sum(self.table)) if self.table[1] else (len(self.file),) * 2
-        if start < self.entry + 8 or end > len(self.file):
-            return None
-        file = self.file
-        return file[: self.pe + 88] + file[self.pe + 92 : self.entry] + file[self.entry + 8 : start] + file[end:]
+        """What a signature signs, by Microsoft's text: the headers without CheckSum and the entry of directory 4, the raw data of each
+        section in ascending order, and what comes after them but for as many bytes as the certificate table has; None if raw data leave a
+        gap or overlap, or if the table is not after them at the end of the file."""
+        end, size = self.headers.headers, self.table[1] if self.table else 0
+        parts = [self.file[: self.pe + 88], self.file[self.pe + 92 : self.entry if self.table else end]]
+        if self.table:
+            parts.append(self.file[self.entry + 8 : end])
+        for section in sorted((it for it in self.headers.sections if it.raw_size), key=lambda it: it.pointer):
+            if section.pointer != end:
+                return None
+            end += section.raw_size
+            parts.append(self.file[section.pointer : end])
+        parts.append(self.file[end : len(self.file) - size])
+        is_last = end <= self.table[0] and sum(self.table) == len(self.file) if size else end <= len(self.file)
+        return b"".join(parts) if is_last and (self.table is None or self.entry + 8 <= self.headers.headers) else None
 
     def words(self, bound):
         return [uint(self.file, at, 4) for at in range(0x40, min(bound, len(self.file)) - 3, 4)]

@@ -12,7 +12,7 @@ static int is_finding(petool_fault it, uint16_t number, uint64_t offset)
 }
 
 /* CheckSum is at 0x98, and directory 4 of 5 at 0xd8; the headers end at 0xe0. */
-enum { HEAD = 0xe0, SIGNATURE = 144, DIGEST = 61, TABLE = 176, WHOLE = HEAD + TABLE + 4 };
+enum { HEAD = 0xe0, SIGNATURE = 144, DIGEST = 61, TABLE = 176, WHOLE = HEAD + TABLE };
 
 /* A signature of a SHA-256 digest that is zeros, with a certificate of serial number 0x1234, by CA for Me. */
 static const uint8_t SIGNED[SIGNATURE] = {
@@ -29,11 +29,11 @@ static const uint8_t SIGNED[SIGNATURE] = {
 
 /* What is to be signed of the file below. */
 static const uint8_t OWN[32] = {
-    0xf1, 0x94, 0x66, 0x56, 0x91, 0x59, 0xae, 0x39, 0x08, 0xfc, 0x0c, 0x3c, 0xa0, 0x6c, 0x73, 0xdd,
-    0x53, 0x1c, 0x25, 0x48, 0x97, 0x24, 0x24, 0xf9, 0x59, 0x7e, 0x6b, 0x18, 0x6c, 0x33, 0xb4, 0xb5,
+    0xc4, 0xca, 0x01, 0x9e, 0xc5, 0xc2, 0xf4, 0x32, 0x27, 0xbf, 0x98, 0x78, 0x39, 0xd7, 0x89, 0x5f,
+    0x66, 0x8e, 0x1b, 0xf0, 0x79, 0xeb, 0x4c, 0xbc, 0xfa, 0xb0, 0x9e, 0x9f, 0x47, 0x46, 0x75, 0x27,
 };
 
-/* The headers of an image; a table of an entry of type 1 with the bytes AB, of the signature, and of an empty entry of type 2; and four bytes. */
+/* The headers of an image; a table of an entry of type 1 with the bytes AB, of the signature, and of an empty entry of type 2. */
 static bytes signed_file(const uint8_t *digest)
 {
     bytes file = {(uint8_t *)calloc(WHOLE, 1), WHOLE};
@@ -55,7 +55,6 @@ static bytes signed_file(const uint8_t *digest)
     if (digest != NULL)
         memcpy(table + 24 + DIGEST, digest, 32);
     memcpy(table + TABLE - 8, "\x08\0\0\0\0\x02\x02\0", 8);
-    memcpy(table + TABLE, "more", 4);
     return file;
 }
 
@@ -67,13 +66,13 @@ static void check_check_sum(void)
     petool_fault fault = UNTOLD;
     put_number(file.at + 0x98, 0x44434241);
     CHECK(petool_check_sum(file.at, file.len, &sum, &fault) == PETOOL_OK && is_untold(fault));
-    CHECK(sum.written == 0x44434241 && sum.computed == 7004);
-    CHECK(petool_check_sum(NULL, 1, &sum, &fault) == PETOOL_ARGUMENT && sum.computed == 7004);
+    CHECK(sum.written == 0x44434241 && sum.computed == 18040);
+    CHECK(petool_check_sum(NULL, 1, &sum, &fault) == PETOOL_ARGUMENT && sum.computed == 18040);
     CHECK(petool_check_sum(file.at, 63, &sum, &fault) == PETOOL_FAULT && fault.number == 2 && sum.written == 0x44434241);
 
     fault = UNTOLD;
     CHECK(petool_overlay(file.at, file.len, &overlay, &fault) == PETOOL_OK && is_untold(fault));
-    CHECK(overlay.offset == HEAD && overlay.size == TABLE + 4 && overlay.kind == PETOOL_OVERLAY_CERTIFICATES);
+    CHECK(overlay.offset == HEAD && overlay.size == TABLE && overlay.kind == PETOOL_OVERLAY_CERTIFICATES);
     CHECK(petool_overlay(file.at, HEAD, &overlay, &fault) == PETOOL_OK && overlay.offset == HEAD && overlay.size == 0);
     CHECK(overlay.kind == PETOOL_OVERLAY_NONE);
     CHECK(petool_overlay(file.at, HEAD - 1, &overlay, &fault) == PETOOL_FAULT && fault.number == 8 && overlay.offset == HEAD);
@@ -145,8 +144,8 @@ static void check_signatures(void)
 static void check_digests(void)
 {
     static const uint8_t SHA1[20] = {
-    0x49, 0x88, 0xd6, 0xa4, 0xb3, 0x0e, 0x45, 0x38, 0x33, 0xd8, 0xf1, 0x5e, 0xe7, 0x59, 0xf5, 0xa2,
-    0xa6, 0x35, 0x1d, 0x9a,
+    0xc2, 0x96, 0xbf, 0x13, 0x09, 0x99, 0x76, 0x18, 0x00, 0x71, 0x11, 0x5d, 0x1c, 0x28, 0xa3, 0x3b,
+    0x93, 0x08, 0xff, 0x53,
     };
     bytes file = signed_file(NULL);
     petool_digest digest = {{0}, 0}, kept;
@@ -164,7 +163,7 @@ static void check_digests(void)
     CHECK(petool_authenticode_digest(file.at, 63, PETOOL_DIGEST_OTHER, &digest, &fault) == PETOOL_ARGUMENT && is_untold(fault));
     CHECK(petool_authenticode_digest(NULL, 1, PETOOL_DIGEST_SHA1, &digest, &fault) == PETOOL_ARGUMENT);
     CHECK(petool_authenticode_digest(file.at, 63, PETOOL_DIGEST_SHA256, &digest, &fault) == PETOOL_FAULT && fault.number == 2);
-    CHECK(petool_authenticode_digest(file.at, WHOLE - 5, PETOOL_DIGEST_SHA256, &digest, &fault) == PETOOL_ABSENT);
+    CHECK(petool_authenticode_digest(file.at, WHOLE - 1, PETOOL_DIGEST_SHA256, &digest, &fault) == PETOOL_ABSENT);
     CHECK(memcmp(&digest, &kept, sizeof kept) == 0);
     free(file.at);
 }
@@ -261,20 +260,21 @@ static void check_findings(void)
     petool_fault rows[6], fault = UNTOLD;
     petool_text subject = PETOOL_NONE, rule = PETOOL_NONE;
     size_t count = 99;
-    /* a table that begins before the end of the headers, at no multiple of 8, and passes the file; an entry in it is not whole */
+    /* a table that begins before the end of the headers, at no multiple of 8, and passes the file, so that there is no digest; an entry
+       in it is not whole */
     put_number(file.at + 0xd8, HEAD - 4);
     put_number(file.at + 0xdc, 0xffffffff);
     memset(rows, 0x5a, sizeof rows);
-    CHECK(petool_trust_findings(file.at, file.len, rows, 6, &count, &fault) == PETOOL_OK && count == 4 && is_untold(fault));
+    CHECK(petool_trust_findings(file.at, file.len, rows, 6, &count, &fault) == PETOOL_OK && count == 5 && is_untold(fault));
     CHECK(is_finding(rows[0], 221, 0xd8) && is_finding(rows[1], 222, HEAD - 4) && is_finding(rows[2], 223, 0xd8));
-    CHECK(is_finding(rows[3], 224, 0xd8) && rows[4].number == 0x5a5a);
+    CHECK(is_finding(rows[3], 224, 0xd8) && is_finding(rows[4], 225, 0xd8) && rows[5].number == 0x5a5a);
     memset(rows, 0x5a, sizeof rows);
-    CHECK(petool_findings(file.at, file.len, rows, 6, &count, &fault) == PETOOL_OK && count == 4 && is_finding(rows[3], 224, 0xd8));
-    CHECK(petool_fault_words(224, &subject, &rule) == PETOOL_OK && subject.len > 0 && rule.len > 0);
+    CHECK(petool_findings(file.at, file.len, rows, 6, &count, &fault) == PETOOL_OK && count == 5 && is_finding(rows[4], 225, 0xd8));
+    CHECK(petool_fault_words(225, &subject, &rule) == PETOOL_OK && subject.len > 0 && rule.len > 0);
     memset(rows, 0x5a, sizeof rows);
-    CHECK(petool_trust_findings(file.at, file.len, rows, 2, &count, &fault) == PETOOL_SMALL && count == 4);
+    CHECK(petool_trust_findings(file.at, file.len, rows, 2, &count, &fault) == PETOOL_SMALL && count == 5);
     CHECK(is_finding(rows[1], 222, HEAD - 4) && rows[2].number == 0x5a5a);
-    CHECK(petool_trust_findings(file.at, file.len, NULL, 0, &count, &fault) == PETOOL_SMALL && count == 4);
+    CHECK(petool_trust_findings(file.at, file.len, NULL, 0, &count, &fault) == PETOOL_SMALL && count == 5);
     CHECK(petool_trust_findings(file.at, file.len, NULL, 1, &count, &fault) == PETOOL_ARGUMENT);
     CHECK(petool_trust_findings(v1.at, v1.len, NULL, 0, &count, &fault) == PETOOL_OK && count == 0 && is_untold(fault));
     count = 99;
@@ -297,7 +297,8 @@ static void check_refused(void)
     CHECK(petool_findings(file.at, file.len, found, 2, &count, &fault) == PETOOL_FAULT && fault.number == 13 && count == 99);
     fault = UNTOLD;
     CHECK(petool_check_sum(file.at, file.len, &sum, &fault) == PETOOL_OK);
-    CHECK(petool_authenticode_digest(file.at, file.len, PETOOL_DIGEST_SHA1, &digest, &fault) == PETOOL_OK && digest.len == 20);
+    CHECK(petool_authenticode_digest(file.at, file.len, PETOOL_DIGEST_SHA1, &digest, &fault) == PETOOL_ABSENT && digest.len == 0);
+    CHECK(petool_authenticode_digest(v1.at, v1.len, PETOOL_DIGEST_SHA1, &digest, &fault) == PETOOL_OK && digest.len == 20);
     CHECK(petool_overlay(file.at, file.len, &overlay, &fault) == PETOOL_OK && overlay.offset == 0x400 && overlay.size == 0);
     CHECK(petool_trust_findings(file.at, file.len, found, 2, &count, &fault) == PETOOL_OK && count == 0 && is_untold(fault));
 }

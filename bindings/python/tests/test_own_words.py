@@ -25,6 +25,7 @@ from .test_trust import (
     SHA256,
     SHA384,
     SHA512,
+    SIZE,
     SOUND,
     SUBJECT,
     certificate,
@@ -32,11 +33,15 @@ from .test_trust import (
     each_byte_changed,
     element,
     entry,
+    found_of,
     image,
+    moved_over_code,
     named,
     rich,
+    sectioned,
     signature,
     signed,
+    with_table,
 )
 
 try:
@@ -73,7 +78,7 @@ class OwnWords(unittest.TestCase):
                     self.assertEqual(it.check_sum_computed, sum_of(file, FIELD))
 
     def test_an_image_has_the_same(self):
-        with petool.Image(signed(SHA256, after=b"more")) as it, trust(signed(SHA256, after=b"more")) as other:
+        with petool.Image(signed(SHA256, before=b"more")) as it, trust(signed(SHA256, before=b"more")) as other:
             for name in ("check_sum", "certificates", "authenticode", "overlay", "rich"):
                 self.assertEqual(getattr(it, name), getattr(other, name))
             self.assertEqual(it.check_sum_computed, other.check_sum.computed)
@@ -97,9 +102,9 @@ class OwnWords(unittest.TestCase):
             name, empty = HASHES[algorithm], bytes(hashlib.new(HASHES[algorithm]).digest_size)
             for change, fits in [(b"", True), (b"\1\2", False), (empty, False), (empty + b"\0" * 100, False)]:
                 with self.subTest((name, change)):
-                    file = signed(algorithm, change=change, after=b"behind the table counts")
-                    wanted = digest_of(file, algorithm)
-                    self.assertEqual(self.signatures(file), ((END, name, change or wanted, fits, ()),))
+                    file = signed(algorithm, change=change, before=b"what is before the table counts")
+                    wanted, at = digest_of(file, algorithm), struct.unpack_from("<I", file, ENTRY)[0]
+                    self.assertEqual(self.signatures(file), ((at, name, change or wanted, fits, ()),))
                     with trust(file) as it:
                         self.assertEqual(it.authenticode_digest(name), wanted)
 
@@ -139,6 +144,20 @@ class OwnWords(unittest.TestCase):
             with self.subTest(pieces), trust(bytes(put(bytearray(file), pieces))) as it:
                 self.assertEqual([it.authenticode_digest(name) for name in ("sha1", "sha256", "sha384", "sha512")], [None] * 4)
                 self.assertEqual({row.fits for row in it.authenticode} - {None}, set())
+
+    def test_code_that_was_not_signed_fits_nothing(self):
+        for file, fits, is_told in zip(moved_over_code(), (True, None), (True, False)):
+            with trust(file) as it:
+                self.assertEqual([row.fits for row in it.authenticode], [fits])
+                self.assertEqual(it.authenticode_digest() is not None, is_told)
+                self.assertEqual(225 in [row.number for row in it.findings], not is_told)
+
+    def test_an_unsigned_file_has_a_digest_unless_that_is_ambiguous(self):
+        for file, is_told in [(sectioned(SIZE), True), (sectioned(2 * SIZE, SIZE), True), (sectioned(SIZE) + b"more", True), (sectioned(SIZE, SIZE), False),
+                              (sectioned(3 * SIZE, SIZE), False), (sectioned(SIZE)[:-1], False)]:
+            with trust(file) as it:
+                self.assertEqual(it.authenticode_digest(), digest_of(file, SHA256) if is_told else None)
+                self.assertEqual(it.findings, ())
 
     def test_algorithms(self):
         with trust(image()) as it:
@@ -197,7 +216,7 @@ class OwnWords(unittest.TestCase):
     def test_findings(self):
         for number, file, place in FOUND:
             with self.subTest((number, place)):
-                wanted = ((number, petool.Place.FILE, place),)
+                wanted = tuple((it, petool.Place.FILE, at) for it, at in found_of(number, place))
                 with trust(file) as it:
                     self.assertEqual(it.findings, wanted)
                     self.assertIn(f" at 0x{place:x}: ", str(it.findings[0]))
@@ -241,7 +260,7 @@ class OwnWords(unittest.TestCase):
 
     def test_many_entries_cost_no_more_than_their_bytes(self):
         """Each is a signature of a file of 4 MB, which is read once."""
-        file = image(entry(signature(SHA256, bytes(32))) * 20000, after=bytes(1 << 22))
+        file = with_table(image() + bytes(1 << 22), entry(signature(SHA256, bytes(32))) * 20000)
         start = time.process_time()
         found = self.signatures(file)
         self.assertEqual((20000, {False}), (len(found), {it.fits for it in found}))
@@ -261,7 +280,7 @@ if pefile is not None:  # another reader of the same, where it is installed
 
     class AsPefileHasThem(unittest.TestCase):
         def test_images(self):
-            for file in (image(field=9), signed(SHA256, after=b"more"), data("v1.dll"), data("v3.dll") + b"overlay"):
+            for file in (image(field=9), signed(SHA256, before=b"more"), data("v1.dll"), data("v3.dll") + b"overlay"):
                 theirs = pefile.PE(data=file)
                 with self.subTest(len(file)), trust(file) as it:
                     self.assertEqual(it.check_sum, (theirs.OPTIONAL_HEADER.CheckSum, theirs.generate_checksum()))

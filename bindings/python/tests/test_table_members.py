@@ -147,7 +147,7 @@ class TableMembers(unittest.TestCase):
         for number, (finding, file, place) in enumerate(trust.FOUND):
             with self.subTest(number):
                 found = [(it["number"], it["image"], it["place"]) for it in self.printed(file, "--all")["findings"]]
-                self.assertEqual(found, [(finding, 0, {"file": place})])
+                self.assertEqual(found, [(it, 0, {"file": at}) for it, at in trust.found_of(finding, place)])
         for number, file in enumerate(trust.SOUND):
             with self.subTest(number):
                 self.assertNotIn("findings", self.printed(file, "--all"))
@@ -230,14 +230,21 @@ class TableMembers(unittest.TestCase):
         self.assertEqual([list(it)[4:] for it in rows], [["type_name"]] * 3 + [[], ["type_name", "signers"]])
 
     def test_check_sum_and_digest(self):
-        file = trust.image(trust.entry(b""), after=b"more", field=7)
+        file = trust.with_table(trust.image(field=7) + b"more", trust.entry(b""))
         wanted = {"check_sum_computed": trust.sum_of(file, 0x98),
                   "authenticode_sha256_hex": trust.digest_of(file, trust.SHA256).hex()}
         told = self.told(file)
         self.assertEqual({name: told[name] for name in wanted}, wanted)
         self.assertEqual(list(self.told(file, "--all", "--no-digest")), ["certificates", "overlay"])
-        # nothing can be signed where the table passes the file
+        # what is signed is ambiguous where the table passes the file, and where it is not at its end
         self.assertNotIn("authenticode_sha256_hex", self.told(trust.image(trust.entry(b""), size=9)))
+        self.assertNotIn("authenticode_sha256_hex", self.told(trust.image(trust.entry(b""), after=b"m")))
+
+    def test_code_that_was_not_signed_fits_nothing(self):
+        file, other = map(self.told, trust.moved_over_code())
+        self.assertEqual((file["certificates"][0]["fits"], "fits" in other["certificates"][0]), (True, False))
+        self.assertEqual(("authenticode_sha256_hex" in file, "authenticode_sha256_hex" in other), (True, False))
+        self.assertEqual([it["number"] for it in other["findings"]], [223, 225])
 
     def test_overlay(self):
         self.assertEqual(self.told(trust.image(after=b"12345"))["overlay"], {"offset": 0xE0, "size": 5, "begins_with": "other data"})

@@ -70,25 +70,59 @@ def image(table=b"", at=END, size=None, after=b"", field=0):
 
 
 def digest_of(file, algorithm):
-    """The digest of what a signature of an image signs."""
+    """The digest of what a signature of an image signs, whose table is after the headers and the raw data at the end of the file."""
     start, size = struct.unpack_from("<II", file, ENTRY)
-    end = start + size if size else len(file)
-    start = start if size else len(file)
-    return hashlib.new(HASHES[algorithm], file[:FIELD] + file[FIELD + 4 : ENTRY] + file[ENTRY + 8 : start] + file[end:]).digest()
+    return hashlib.new(HASHES[algorithm], file[:FIELD] + file[FIELD + 4 : ENTRY] + file[ENTRY + 8 : start if size else len(file)]).digest()
 
 
-def signed(algorithm, *certificates, change=b"", after=b""):
-    """An image whose signature fits, but for a change of its digest."""
+def with_table(file, table):
+    """A file with a certificate table at its end, padded before that to a multiple of 8."""
+    at = len(file) + -len(file) % 8
+    return bytes(put(bytearray(file), (ENTRY, numbers(at, len(table))))).ljust(at, b"\0") + table
+
+
+def signed_file(file, algorithm, *certificates, change=b""):
+    """A file that is signed by a signature that fits, but for a change of its digest."""
     size = len(entry(signature(algorithm, bytes(hashlib.new(HASHES[algorithm]).digest_size), *certificates)))
-    digest = digest_of(image(bytes(size), after=after), algorithm)
-    return image(entry(signature(algorithm, change or digest, *certificates)), after=after)
+    digest = digest_of(with_table(file, bytes(size)), algorithm)
+    return with_table(file, entry(signature(algorithm, change or digest, *certificates)))
+
+
+def signed(algorithm, *certificates, change=b"", before=b""):
+    """The same of an image that has only headers, with bytes behind them."""
+    return signed_file(image() + before, algorithm, *certificates, change=change)
+
+
+#: The sizes of the headers and of each section's raw data of the image here.
+SIZE = 0x200
+
+
+def sectioned(*pointers):
+    """An image with a section of SIZE bytes at each of these file offsets, in the order of the section table."""
+    count, end = len(pointers), max(pointers, default=0) + SIZE
+    file = bytearray(image_of(0x88, SIZE, (0x46, bytes([count])), (0x90, numbers(0x1000 * (count + 1))), (0xB4, b"\5"))).ljust(end, b"\xcc")
+    for k, pointer in enumerate(pointers):
+        put(file, (END + 40 * k, b".text".ljust(8, b"\0") + numbers(SIZE, 0x1000 * (k + 1), SIZE, pointer)))
+    return bytes(file)
+
+
+def moved_over_code():
+    """A signed image before and after its certificate table was moved to where the raw data of `.text` are, so that the code is what
+    the table and the bytes behind it hold. What is signed by a rule that leaves out the table, wherever it is, is the same: the bytes
+    that were signed are at the end of the file."""
+    file = signed_file(sectioned(SIZE), SHA256)
+    at, size = struct.unpack_from("<II", file, ENTRY)
+    code, table = file[SIZE:at], file[at:]
+    other = bytearray(file[:SIZE] + table + code)
+    put(other, (ENTRY, numbers(SIZE, size)))
+    return file, bytes(other)
 
 
 def each_byte_changed():
     """A signed file with one of its bytes changed: its offset, the file, and whether the signature still fits."""
-    file = signed(SHA256, after=b"more")
-    table, size = struct.unpack_from("<II", file, ENTRY)
-    for at in (2, FIELD - 5, FIELD, FIELD + 3, FIELD + 4, ENTRY - 1, table + size, len(file) - 1):
+    file = signed(SHA256, before=b"more")
+    table = struct.unpack_from("<I", file, ENTRY)[0]
+    for at in (2, FIELD - 5, FIELD, FIELD + 3, FIELD + 4, ENTRY - 1, END, table - 1):
         other = bytearray(file)
         other[at] ^= 1
         yield at, bytes(other), FIELD <= at < FIELD + 4
@@ -123,7 +157,12 @@ OLEAUT32 = ["ord1", "sysallocstring", "sysfreestring", "vari4fromui1", "vari4fro
             "varneg", "varbstrfromi1", "varbstrfromui2", "bstr_userfree", "variant_usersize", "vari4fromi8", "vari4fromui8",
             "unregistertypelibforuser", "ord444", "ord65535"]
 
-#: Each finding with files that meet it and no other, and its place.
+def found_of(number, place):
+    """A finding at a place, and 225 with those of a table that is not after the raw data at the end of the file."""
+    return [(number, place), (225, ENTRY)] if number in (221, 223) else [(number, place)]
+
+
+#: Each finding with files that meet it and no other, but for 225, and its place.
 FOUND = [
     (221, image(entry(b""), size=9), ENTRY),
     (221, image(entry(b""), size=0xFFFFFFFF), ENTRY),
@@ -135,14 +174,22 @@ FOUND = [
     # SizeOfHeaders reaches over the table
     (223, bytes(put(bytearray(image(entry(b""))), (0x94, numbers(END + 8)))), ENTRY),
     (224, image(entry(b""), at=END + 4), ENTRY),
+    # bytes behind the table; and sections that leave a gap, before or between them, or that overlap
+    (225, image(entry(b""), after=b"m"), ENTRY),
+    (225, with_table(sectioned(SIZE + 8), entry(b"")), ENTRY),
+    (225, with_table(sectioned(3 * SIZE, SIZE), entry(b"")), ENTRY),
+    (225, with_table(sectioned(SIZE, 2 * SIZE - 8), entry(b"")), ENTRY),
+    (225, with_table(sectioned(SIZE, SIZE), entry(b"")), ENTRY),
     (241, rich(PAIRS, start=b"DanT")[0], 0x60),
     # the words before 0x40 do not count: with this key the offset of the signature reads DanS
     (241, bytes(put(bytearray(rich([])[0]), (0x40, bytes(0x40)), (0x60, b"Rich" + numbers(0x80 ^ 0x536E6144)))), 0x60),
 ]
 
 #: Files without a finding.
-SOUND = [image(), image(entry(b"")), image(entry(b"1234567") + entry(b"", 1)), image(entry(b""), after=b"more"), rich(PAIRS)[0],
-         rich(PAIRS, key=0x12345678)[0], rich([])[0]]
+SOUND = [image(), image(entry(b"")), image(entry(b"1234567") + entry(b"", 1)), image(entry(b""), at=END + 8), rich(PAIRS)[0],
+         rich(PAIRS, key=0x12345678)[0], rich([])[0], with_table(sectioned(SIZE), entry(b"")), with_table(sectioned(2 * SIZE, SIZE), entry(b"")),
+         # without a table nothing needs a digest
+         sectioned(SIZE, SIZE), sectioned(3 * SIZE, SIZE)]
 
 
 @unittest.skipUnless(PROGRAM, "left out without program: PETOOL_PROGRAM names none")
@@ -176,9 +223,9 @@ class Trust(unittest.TestCase):
         self.assertEqual({it[0] for it in FOUND}, {number for number in words if number in range(221, 251)})
         for number, file, place in FOUND:
             with self.subTest((number, place)):
-                subject, rule = words[number]
-                self.assertEqual([f"  {number}  {subject} at 0x{place:x}: {rule}"], self.parts(file, "--trust").get("Findings (1)"))
-                self.assertNotIn("Findings (1)", self.parts(file))
+                expected = [f"  {it}  {words[it][0]} at 0x{at:x}: {words[it][1]}" for it, at in found_of(number, place)]
+                self.assertEqual(expected, self.parts(file, "--trust").get(f"Findings ({len(expected)})"))
+                self.assertEqual([], [heading for heading in self.parts(file) if heading.startswith("Findings")])
 
     def test_files_without_a_finding(self):
         for number, file in enumerate(SOUND):
@@ -204,10 +251,18 @@ class Trust(unittest.TestCase):
         for algorithm in (SHA1, SHA256, SHA384, SHA512):
             for change, words in [(b"", "fits"), (b"\1\2", "does not fit"), (bytes(hashlib.new(HASHES[algorithm]).digest_size), "does not fit")]:
                 with self.subTest((NAMES[algorithm], change)):
-                    file = signed(algorithm, change=change, after=b"behind the table counts")
-                    length = struct.unpack_from("<I", file, END)[0]
-                    self.assertEqual([f"  Certificate  PKCS #7, revision 0x0200, {length} bytes at file 0xe0", f"    signed digest {NAMES[algorithm]}, {words}"],
+                    file = signed(algorithm, change=change, before=b"what is before the table counts")
+                    at = struct.unpack_from("<I", file, ENTRY)[0]
+                    length = struct.unpack_from("<I", file, at)[0]
+                    self.assertEqual([f"  Certificate  PKCS #7, revision 0x0200, {length} bytes at file 0x{at:x}", f"    signed digest {NAMES[algorithm]}, {words}"],
                                      self.trust(file))
+
+    def test_code_that_was_not_signed_fits_nothing(self):
+        file, other = moved_over_code()
+        self.assertEqual("    signed digest SHA-256, fits", self.trust(file)[1])
+        self.assertEqual("    signed digest SHA-256", self.trust(other)[1])
+        subject, rule = words_of()[225]
+        self.assertIn(f"  225  {subject} at 0x{ENTRY:x}: {rule}", self.parts(other, "--trust")["Findings (2)"])
 
     def test_each_byte_that_is_signed_counts(self):
         for at, other, fits in each_byte_changed():
@@ -342,7 +397,7 @@ class Trust(unittest.TestCase):
     def test_a_hundred_thousand_entries_cost_no_more_than_their_bytes(self):
         """Each is a signature of a file of 4 MB, which is read once."""
         table = entry(signature(SHA256, bytes(32))) * 20000
-        file = image(table, after=bytes(1 << 22))
+        file = with_table(image() + bytes(1 << 22), table)
         start = time.process_time()
         rows = self.trust(file)
         self.assertEqual((40000, 20000), (len(rows), sum("SHA-256, does not fit" in row for row in rows)))

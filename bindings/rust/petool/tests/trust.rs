@@ -159,6 +159,11 @@ fn digests() -> Result<(), Error> {
     let mut past = image(&entry(2, b""));
     past[0xdc] += 1;
     assert_eq!(Trust::new(&past)?.digest(DigestAlgorithm::Sha256), None);
+    // and one with a byte behind it
+    past.push(0);
+    assert!(Trust::new(&past)?.digest(DigestAlgorithm::Sha256).is_some());
+    past.push(0);
+    assert_eq!(Trust::new(&past)?.digest(DigestAlgorithm::Sha256), None);
     Ok(())
 }
 
@@ -208,7 +213,7 @@ fn a_file_that_is_refused() -> Result<(), Error> {
     assert!(matches!(Image::new(&file), Err(Error::Fault(fault)) if fault.number == 13));
     let trust = Trust::new(&file)?;
     assert_eq!((trust.overlay().offset, trust.overlay().size), (0x2000, 0));
-    assert!(trust.digest(DigestAlgorithm::Sha1).is_some() && trust.file().len() == file.len());
+    assert!(trust.digest(DigestAlgorithm::Sha1).is_none() && trust.file().len() == file.len());
     assert_eq!((trust.certificates()?, trust.findings()?), (vec![], vec![]));
     assert!(matches!(Trust::new(&file[..63]), Err(Error::Fault(fault)) if fault.number == 2));
     Ok(())

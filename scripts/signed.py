@@ -1,0 +1,248 @@
+#!/usr/bin/env python3
+"""Compares the digests that `petool json --all` tells of signed images, and of mutants of the first five of them, with osslsigncode,
+sbverify and the reader in pages_trust.py, which follows Microsoft's text:
+
+    signed.py PETOOL MUTANTS CERTIFICATE PATH...
+
+PETOOL is the program. A PATH is an image or a folder, of which all files that begin with MZ are used; MUTANTS of them are made, with
+fields, single bytes or the certificate table changed, moved, cut off or extended. CERTIFICATE is that of images that were signed by
+it; of the others sbverify is given those that are in the signature.
+
+Where petool tells a digest, osslsigncode must compute the same, and the digest of the signature must fit by both; sbverify must then
+accept the file, and refuse one that does not fit. Where petool tells none, it must be a case that the text's rule leaves ambiguous, and
+finding 225 must say so. Differences are printed one by one; the last lines count the files. Needs osslsigncode, sbverify and openssl.
+"""
+
+import collections
+import hashlib
+import json
+import pathlib
+import random
+import re
+import struct
+import subprocess
+import sys
+import tempfile
+
+from compared import images
+from pages_reader import Headers
+from pages_trust import Trust
+
+COUNTS = collections.Counter()
+SOURCES = 5
+
+
+def run(*words):
+    return subprocess.run(words, stdout=subprocess.PIPE, stderr=subprocess.STDOUT, check=False)
+
+
+def places(file):
+    """The offsets of SizeOfHeaders, CheckSum and the entry of directory 4, and of the headers of all sections."""
+    pe, magic = (struct.unpack_from("<I", file, 60)[0],) + struct.unpack_from("<H", file, struct.unpack_from("<I", file, 60)[0] + 24)
+    count, optional = struct.unpack_from("<H", file, pe + 6)[0], struct.unpack_from("<H", file, pe + 20)[0]
+    entry = pe + 24 + (96 if magic == 0x10B else 112) + 32
+    return pe + 84, pe + 88, entry, [pe + 24 + optional + 40 * k for k in range(count)]
+
+
+def table_over_text(file, seed):
+    """The table is moved to where the raw data of the first section are, and its last bytes are what was there."""
+    _, _, entry, sections = places(file)
+    at, size = struct.unpack_from("<II", file, entry)
+    raw_size, pointer = struct.unpack_from("<II", file, sections[0] + 16)
+    table, code = file[at : at + size], file[pointer : pointer + raw_size]
+    other = bytearray(file[:pointer] + table + code[size:] + file[pointer + raw_size : at] if raw_size >= size else file)
+    struct.pack_into("<II", other, entry, pointer, size)
+    return other
+
+
+def table_before_text(file, seed):
+    """The table is put before the raw data of the first section, which move behind all others, with other bytes in their place."""
+    _, _, entry, sections = places(file)
+    at, size = struct.unpack_from("<II", file, entry)
+    raw_size, pointer = struct.unpack_from("<II", file, sections[0] + 16)
+    other = bytearray(file[:at] + file[pointer : pointer + raw_size])
+    other[pointer : pointer + size] = file[at : at + size]
+    struct.pack_into("<I", other, sections[0] + 20, at)
+    struct.pack_into("<II", other, entry, pointer, size)
+    return other
+
+
+def entry_changed(file, seed):
+    other, (_, _, entry, _) = bytearray(file), places(file)
+    field = entry + 4 * seed.randrange(2)
+    number = struct.unpack_from("<I", other, field)[0]
+    struct.pack_into("<I", other, field, seed.choice([0, number + 8, number - 8, number + 1, seed.randrange(len(file)), 0xFFFFFFF8]) % 2**32)
+    return other
+
+
+def section_changed(file, seed):
+    other, (_, _, _, sections) = bytearray(file), places(file)
+    field = seed.choice(sections) + seed.choice([16, 20])
+    number = struct.unpack_from("<I", other, field)[0]
+    struct.pack_into("<I", other, field, seed.choice([0, number + 512, number - 512, number + 1, seed.randrange(len(file))]) % 2**32)
+    return other
+
+
+def sections_exchanged(file, seed):
+    other, (_, _, _, sections) = bytearray(file), places(file)
+    one, two = seed.choice(sections), seed.choice(sections)
+    other[one : one + 40], other[two : two + 40] = other[two : two + 40], other[one : one + 40]
+    return other
+
+
+def headers_changed(file, seed):
+    other, (size, _, _, _) = bytearray(file), places(file)
+    struct.pack_into("<I", other, size, (struct.unpack_from("<I", other, size)[0] + seed.choice([512, -512, 8, -8])) % 2**32)
+    return other
+
+
+def byte_changed(file, seed):
+    other, (_, field, entry, _) = bytearray(file), places(file)
+    at = seed.choice([seed.randrange(len(file)), seed.randrange(1024), field + seed.randrange(4), entry + seed.randrange(8), struct.unpack_from("<I", file, entry)[0] - 1])
+    other[at] ^= 1 << seed.randrange(8)
+    return other
+
+
+def cut(file, seed):
+    return bytearray(file[: len(file) - seed.choice([1, 8, seed.randrange(len(file) // 2)])])
+
+
+def extended(file, seed):
+    return bytearray(file) + bytes(seed.choice([1, 8, 4096]))
+
+
+def inserted(file, seed):
+    """Bytes are put before the table, which moves behind them."""
+    _, _, entry, _ = places(file)
+    at, size = struct.unpack_from("<II", file, entry)
+    more = 8 * seed.randrange(1, 9)
+    other = bytearray(file[:at] + bytes(more) + file[at:])
+    struct.pack_into("<II", other, entry, at + more, size)
+    return other
+
+
+CHANGES = [table_over_text, table_before_text, entry_changed, section_changed, sections_exchanged, headers_changed, byte_changed, byte_changed, cut, extended, inserted]
+
+
+def mutants(files, count):
+    seed = random.Random(225)
+    for k in range(count):
+        yield CHANGES[k % len(CHANGES)](files[k // len(CHANGES) % len(files)], seed)
+
+
+def by_osslsigncode(path):
+    """The digest that the first signature signs and the one of the file, or none if it does not read the file."""
+    found = re.findall(rb"message digest\s*: ([0-9A-F]+)", run("osslsigncode", "verify", "-in", path).stdout)
+    return [bytes.fromhex(it.decode()) for it in found[:2]] if len(found) >= 2 else None
+
+
+def certificates_in(file):
+    """The certificates in the first signature, as a file of PEM."""
+    _, _, entry, _ = places(file)
+    at = struct.unpack_from("<I", file, entry)[0]
+    size = struct.unpack_from("<I", file, at)[0]
+    done = subprocess.run(["openssl", "pkcs7", "-inform", "DER", "-print_certs"], input=file[at + 8 : at + size], capture_output=True, check=False)
+    return [it + b"-----END CERTIFICATE-----\n" for it in re.findall(rb"-----BEGIN CERTIFICATE-----.*?(?=-----END)", done.stdout, re.S)]
+
+
+def accepts(path, certificates):
+    """Whether sbverify accepts a file by one of the certificates."""
+    for certificate in certificates:
+        with tempfile.NamedTemporaryFile(suffix=".pem") as pem:
+            pem.write(certificate)
+            pem.flush()
+            if run("sbverify", "--cert", pem.name, path).returncode == 0:
+                return True
+    return False
+
+
+def reason(trust):
+    """In which case of the rule's ambiguity a file is, or none."""
+    table, end = trust.table, trust.headers.headers
+    for section in sorted((it for it in trust.headers.sections if it.raw_size), key=lambda it: it.pointer):
+        if section.pointer != end:
+            return "raw data leave a gap" if section.pointer > end else "raw data overlap"
+        end += section.raw_size
+    if table and table[1] and sum(table) > len(trust.file):
+        return "the table passes the file"
+    if table and table[1] and table[0] < end:
+        return "the table is not after the raw data"
+    if table and table[1] and sum(table) < len(trust.file):
+        return "bytes come after the table"
+    return "the raw data pass the file" if end > len(trust.file) else None
+
+
+def check(path, line, certificates):
+    """Compares what a line says of a file, and counts it. Yields what differs."""
+    file = path.read_bytes()
+    if "format" not in line:
+        COUNTS["with a fault of the headers"] += 1
+        return
+    trust = Trust(file, Headers(file))
+    message, case, has_table = trust.message(), reason(trust), bool(trust.table and trust.table[1])
+    own = line.get("authenticode_sha256_hex")
+    signature = next((it for it in line.get("certificates", []) if "digest_hex" in it), None)
+    has_finding = any(it["number"] == 225 for it in line.get("findings", []))
+    if own != (None if message is None else hashlib.sha256(message).hexdigest()) or (message is None) != (case is not None):
+        yield f"petool {own}, by the text {case or hashlib.sha256(message).hexdigest()}"
+    if has_finding != (has_table and case is not None):
+        yield f"finding 225 {has_finding}, by the text {case}"
+    if own is None:
+        COUNTS[case] += 1
+        if signature and "fits" in signature:
+            yield "fits is told without a digest"
+        return
+    COUNTS["with a digest"] += 1
+    if signature is None or "fits" not in signature:
+        COUNTS["of these without a signature that is read"] += 1
+        return
+    COUNTS["of these that fit" if signature["fits"] else "of these that do not fit"] += 1
+    theirs = by_osslsigncode(path)
+    if theirs is None:
+        COUNTS["of these not read by osslsigncode"] += 1
+    else:
+        COUNTS["of these compared with osslsigncode"] += 1
+        computed = {"SHA-1": "sha1", "SHA-256": "sha256", "SHA-384": "sha384", "SHA-512": "sha512"}[signature["digest_algorithm"]]
+        if theirs != [bytes.fromhex(signature["digest_hex"]), hashlib.new(computed, message).digest()] or signature["fits"] != (theirs[0] == theirs[1]):
+            yield f"petool {signature}, osslsigncode {[it.hex() for it in theirs]}"
+    is_accepted = accepts(path, certificates)
+    COUNTS["of these accepted by sbverify"] += is_accepted
+    if is_accepted and not signature["fits"]:
+        yield "sbverify accepts a file that does not fit"
+    if signature["fits"] and not is_accepted:
+        COUNTS["of these that fit and that sbverify does not accept"] += 1
+        print(f"{path.name}: not accepted by sbverify")
+
+
+def compare(petool, paths, certificates):
+    """Compares all files, of which petool reads all at once."""
+    done = subprocess.run([petool, "json", "--all", *map(str, paths)], stdout=subprocess.PIPE, check=False)
+    lines = [json.loads(it) for it in done.stdout.splitlines() if it.startswith(b"{")]
+    for path, line in zip(paths, lines, strict=True):
+        for difference in check(path, line, certificates[path]):
+            COUNTS["differences"] += 1
+            print(f"{path}: {difference}")
+
+
+def main(petool, count, certificate, *folders):
+    own = pathlib.Path(certificate).read_bytes()
+    paths = [pathlib.Path(it) for folder in folders for it in images(folder)]
+    certificates = {it: [own, *certificates_in(it.read_bytes())] for it in paths}
+    print(f"{len(paths)} images")
+    with tempfile.TemporaryDirectory() as folder:
+        sources = [it.read_bytes() for it in paths[:SOURCES]]
+        made = []
+        for k, mutant in enumerate(mutants(sources, int(count))):
+            made.append(pathlib.Path(folder) / f"{k}-{CHANGES[k % len(CHANGES)].__name__}")
+            made[-1].write_bytes(mutant)
+            certificates[made[-1]] = certificates[paths[k // len(CHANGES) % len(sources)]]
+        compare(petool, [*paths, *made], certificates)
+    for name, number in COUNTS.items():
+        print(f"{number} {name}")
+    return COUNTS["differences"] > 0
+
+
+if __name__ == "__main__":
+    if len(sys.argv) < 5:
+        sys.exit(__doc__)
+    sys.exit(main(*sys.argv[1:]))
