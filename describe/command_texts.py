@@ -5,7 +5,7 @@ Sources have no comments for this: a source that changes must be proved again, s
 """
 
 import re
-from typing import Callable, Dict, List
+from typing import Callable, Dict, List, Tuple
 
 import regions
 from commands import Commands, Item
@@ -139,8 +139,28 @@ def _readme(commands: Commands, what: str) -> List[str]:
     return ["| Command | Prints |", "|---|---|", *rows]
 
 
+def _listed(names: List[str]) -> str:
+    return f"{', '.join(names[:-1])} and {names[-1]}"
+
+
+def _going_on(commands: Commands) -> str:
+    """Which commands go on after a file that is refused, as a sentence."""
+    names = [f"`{it.name()}`" for it in commands.of("command") if "files" in it.rows]
+    return f"{_listed(names)} process every file, even after one that is refused or cannot be opened, and exit with the worst status."
+
+
+def _telling(commands: Commands) -> str:
+    """How the commands tell a fault, as a sentence."""
+    told = [(it.name(), *it.rows["faults"].partition(" ")) for it in commands.of("command") if "faults" in it.rows]
+    lines, words = ([f"`{name}`{space}{when}" for name, form, space, when in told if form == kind] for kind in ("line", "words"))
+    line = "print a fault as a line on standard output, such as `fault 13 image 0 file 0x00000138`, and in words on standard error"
+    return f"{_listed(lines)} {line}; {_listed(words)} print the words themselves."
+
+
 def _guide(commands: Commands, what: str) -> List[str]:
-    """A part of docs/GUIDE.md: the table of commands, or that of exit statuses."""
+    """A part of docs/GUIDE.md: the table of commands, how they tell a fault, or the table of exit statuses."""
+    if what == "faults":
+        return [_telling(commands)]
     if what == "statuses":
         rows = [f"| {it.name()} | {it.rows['means']} |" for it in commands.of("status")]
         return ["| Exit status | Means |", "|---|---|", *rows]
@@ -185,12 +205,30 @@ def _paragraphs(commands: Commands) -> List[str]:
     return lines
 
 
+def _options(commands: Commands) -> List[str]:
+    """A paragraph for each option: the commands that have it, and what it does for them."""
+    found: Dict[Tuple[str, str], List[str]] = {}
+    for it in commands.of("command"):
+        for option, name in re.findall(r"(--([\w-]+)(?: [A-Z]+)?)", " ".join(commands.usage(it))):
+            found.setdefault((option, commands.help_of(it, name)), []).append(it.name())
+    lines: List[str] = []
+    for (option, does), names in found.items():
+        words = re.sub(r"--[a-z-]+", lambda it: _bold(it[0]), f"{does}.").split(" ")
+        lines += [".TP", f"{_roff_usage(option)} ({', '.join(map(_bold, names))})", *regions.wrapped(words, 120, "")]
+    return lines
+
+
 def _man(commands: Commands, what: str) -> List[str]:
-    """A part of man/petool.1: the synopses of the commands, what they do, or the exit statuses."""
+    """A part of man/petool.1: the synopses of the commands, what they do, their options, the exit statuses, or a sentence on all."""
+    if what in ("going on", "faults"):
+        sentence = _going_on(commands) if what == "going on" else _telling(commands)
+        return regions.wrapped(_roff(sentence).split(" "), 120, "")
     if what == "synopses":
         return _synopsis(commands)
     if what == "commands":
         return _paragraphs(commands)
+    if what == "options":
+        return _options(commands)
     return [line for it in commands.of("status") for line in (".TP", f".B {it.name()}", _roff(it.rows["means"]))]
 
 
@@ -214,7 +252,11 @@ FILES: Dict[str, Callable[[Commands, str], str]] = {
     **{f"{WORDS}/{file}": _words(file) for file in ("at_words.rt", "layout_words.rt", "map_words.rt", "rebase_words.rt", "resource_words.rt")},
 }
 #: The parts that a page must have.
-PARTS = {README: ["commands", "statuses"], GUIDE: ["commands", "statuses"], MAN: ["synopses", "commands", "statuses"]}
+PARTS = {
+    README: ["commands", "statuses"],
+    GUIDE: ["commands", "faults", "statuses"],
+    MAN: ["synopses", "going on", "commands", "options", "statuses", "faults"],
+}
 
 
 def status_faults(commands: Commands, source: str) -> List[str]:

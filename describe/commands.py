@@ -6,14 +6,17 @@ from typing import Dict, List
 
 from description import Mistake, read_lines
 
-#: The rows below each kind of heading, in order; a command has `options`, and a word `values`, if it has any.
+#: The rows below each kind of heading, in order, and those that may be missing.
 ROWS = {
     "option": ("field", "help"),
     "word": ("help", "values"),
     "status": ("means",),
-    "command": ("options", "help", "readme", "guide"),
+    "command": ("options", "files", "faults", "help", "readme", "guide"),
     "other": ("guide",),
 }
+MAY_BE_MISSING = ("options", "files", "faults", "values")
+#: What some rows may say.
+FORMS = {"files": re.compile("each"), "faults": re.compile(r"(?:line|words)(?: \(.+\))?")}
 ROW = re.compile(r"(\w+) +(.+)")
 
 
@@ -42,7 +45,7 @@ class Commands:
         self.all_help = ""
         read_lines(text, self._read)
         for it in self.items:
-            missing = [row for row in ROWS[it.kind] if row not in it.rows and row not in ("options", "values")]
+            missing = [row for row in ROWS[it.kind] if row not in it.rows and row not in MAY_BE_MISSING]
             if missing:
                 raise Mistake(f"{it.kind} {it.words} has no row {missing[0]}")
         self._check_options()
@@ -76,6 +79,8 @@ class Commands:
         item = self.items[-1]
         if found is None or found[1] not in ROWS[item.kind] or found[1] in item.rows:
             raise Mistake("no row of this item")
+        if found[1] in FORMS and not FORMS[found[1]].fullmatch(found[2]):
+            raise Mistake(f"a row {found[1]} says nothing like this")
         self._last = found[1]
         item.rows[found[1]] = found[2]
 

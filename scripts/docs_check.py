@@ -319,10 +319,24 @@ def word_faults(page, synopses, helped, is_short=False):
             yield f"{page}: {name} takes {' '.join(takes) or 'no argument'}, and not {' '.join(arguments) or 'none'}"
 
 
+def manual_options():
+    """The options that petool(1) has paragraphs for, by the commands that these name; those of the program itself name none."""
+    found = {}
+    for tag in map(shown, re.findall(r"^\.TP\n(.*)$", part_of_manual("OPTIONS"), re.M)):
+        option, _, commands = re.sub(r"^-\w, ", "", tag).rstrip(")").partition(" (")
+        for command in commands.split(", "):
+            found.setdefault(command, set()).add(option)
+    return found
+
+
 def manual_faults(program, helped):
-    """Whether petool(1) has a paragraph for each command, no option that is not in help, and the program's version."""
+    """Whether petool(1) has paragraphs for each command and option, no option that is not in help, and the program's version."""
     named = set(re.findall(r"^\.TP\n\.B (\w+)$", part_of_manual("COMMANDS"), re.M))
     yield from (f"{MAN}: {it} is no command, or has no paragraph" for it in sorted(named ^ (helped.keys() - {""})))
+    paragraphs = manual_options()
+    for command in [it for it in helped if it != "help"]:
+        missing = helped[command][0] - paragraphs.get(command, set())
+        yield from (f"{MAN}: there is no paragraph for {it} of petool {command}".rstrip() for it in sorted(missing))
     options = {it.split()[0] for options, _ in helped.values() for it in options}
     told = set(re.findall(r"--[\w-]+", read(MAN).replace("\\-", "-")))
     yield from (f"{MAN}: there is no option {it}" for it in sorted(told - options))

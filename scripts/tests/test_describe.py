@@ -330,6 +330,11 @@ COMMANDS_WRITTEN = [
     ("docs/GUIDE.md", "| 5 | a text was cut", "| 6 | a text was cut"),
     ("man/petool.1", "\\fIHEX\\fP \\fIIN\\fP \\fIOUT\\fP", "\\fIIN\\fP \\fIOUT\\fP"),
     ("man/petool.1", "Prints what fault N means", "Prints what a fault means"),
+    ("man/petool.1", "Prints each entry of the debug directory.", "Prints debug data."),
+    ("man/petool.1", "\\fBdump\\fP, \\fBobject\\fP, \\fBarchive\\fP, \\fBjson\\fP)", "\\fBdump\\fP, \\fBobject\\fP, \\fBjson\\fP)"),
+    ("man/petool.1", "\\fBjson\\fP and \\fBsum\\fP process every file", "\\fBjson\\fP process every file"),
+    ("man/petool.1", "\\fBarchive\\fP, \\fBsum\\fP, \\fBmap\\fP,", "\\fBarchive\\fP, \\fBmap\\fP,"),
+    ("docs/GUIDE.md", "`archive`, `sum`, `map`, `layout` and `rebase` print a fault", "`archive`, `map` and `rebase` print a fault"),
     (FILE_WORDS, "Prints each symbol of an object", "Prints symbols"),
     (FILE_WORDS, "Prints each image or object, and its first fault if it is refused, as one line of JSON", "Prints JSON"),
     (FILE_WORDS, "        imports: is_all", "        exports: is_all"),
@@ -365,6 +370,9 @@ COMMANDS_DESCRIBED = [
     ("[--unbound] [--window HEX]", "[--unbound] [--window N]", "has the option window N, which no word describes"),
     ("word known\n", "word known\n  help  It is not used\n\nword unknown\n", "crates/pe_words/src/map_words.rt"),
     ("status 4 OUT_OF_MEMORY", "statuses 4 OUT_OF_MEMORY", "line "),
+    ("  faults     line (without LEAF)", "  faults     lines", "a row faults says nothing like this"),
+    ("  files      each", "  files      some", "a row files says nothing like this"),
+    ("  files      each\n", "", "man/petool.1"),
 ]
 
 

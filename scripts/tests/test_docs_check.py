@@ -93,6 +93,8 @@ WORDS = [
     (MAN, "[\\fB\\-\\-window", "[\\fB\\-\\-range", f"{MAN}: petool map has --window HEX, which is not named"),
     (MAN, "\\fIHEX=FILE\\fP...", "\\fIHEX=FILE\\fP", f"{MAN}: petool map takes HEX=FILE..., and not HEX=FILE"),
     (MAN, "\n.B rebase\n", "\n.B move\n", f"{MAN}: move is no command, or has no paragraph"),
+    (MAN, "\\fB\\-\\-raw\\fP (\\fBresource\\fP)", "\\fB\\-\\-raw\\fP (\\fBarchive\\fP)", f"{MAN}: there is no paragraph for --raw of petool resource"),
+    (MAN, ".TP\n\\fB\\-\\-count\\fP \\fIN\\fP (", ".PP\n\\fB\\-\\-count\\fP \\fIN\\fP (", f"{MAN}: there is no paragraph for --count N of petool map"),
     (MAN, "bad command line", "bad command line, by \\-\\-more", f"{MAN}: there is no option --more"),
     ("VERSION", "2.0", "2.1", "VERSION: the program is petool 2.0"),
 ]

@@ -1,16 +1,21 @@
-"""The examples in Python on the pages, run as the pages say, in a shell where PYTHONPATH and PETOOL_LIBRARY are not set."""
+"""The examples in Python on the pages, run as the pages say, in a shell where PYTHONPATH and PETOOL_LIBRARY are not set; and what they show
+of the program, where they name the folder with its files, or show how a shell runs it."""
 
 import os
 import re
 import shlex
+import pathlib
+import shutil
 import subprocess
 import sys
+import tempfile
 import unittest
 
 from petool import _library
 
 from . import DATA, PACKAGE, TOP
 
+PROGRAM = os.environ.get("PETOOL_PROGRAM")
 #: The library that the pages build.
 BUILT = "/tmp/petool-c/libpetool.so.2"
 
@@ -59,6 +64,42 @@ class Pages(unittest.TestCase):
         for example in sorted((PACKAGE / "examples").glob("*.py")):
             done = run(f"{setting}\n{example} --help")
             self.assertEqual((done.returncode, done.stderr, done.stdout[:6]), (0, "", "usage:"), example)
+
+
+def runs(page):
+    """What a page shows of the program: the folder in which it runs, what the shell is told, and what is printed."""
+    for paragraph, block in re.findall(r"^(\S.*)\n\n((?:    .*\n)+)", page.read_text(), re.M):
+        folder = re.search(r"\b[Ii]n `(crates/[\w/]+)`", paragraph)
+        lines = [line[4:] for line in block.splitlines()]
+        told = [line[2:] for line in lines if line.startswith("$ ")] or re.findall(r"`(petool [^`]*)`", paragraph)
+        if folder or lines[0].startswith("$ "):
+            yield TOP / folder[1] if folder else TOP, told, [line for line in lines if not line.startswith("$ ")]
+
+
+@unittest.skipUnless(PROGRAM, "left out without program: PETOOL_PROGRAM names none")
+class Shown(unittest.TestCase):
+    def setUp(self):
+        self.room = pathlib.Path(tempfile.mkdtemp())
+        self.addCleanup(shutil.rmtree, self.room)
+        (self.room / "bin").mkdir()
+        (self.room / "bin/petool").symlink_to(os.path.abspath(PROGRAM))
+
+    def printed(self, folder, script):
+        """What a shell prints in a folder that has what this folder has."""
+        work = pathlib.Path(tempfile.mkdtemp(dir=self.room))
+        for it in folder.iterdir():
+            (work / it.name).symlink_to(it)
+        environment = {**os.environ, "PATH": f"{self.room / 'bin'}:{os.environ['PATH']}"}
+        done = subprocess.run(["sh", "-c", script], cwd=work, env=environment, stdout=subprocess.PIPE, stderr=subprocess.STDOUT, text=True)
+        return done.stdout.splitlines()
+
+    def test_what_the_guide_and_the_readme_show_of_the_program(self):
+        for page, count in (("docs/GUIDE.md", 5), ("README.md", 1)):
+            found = list(runs(TOP / page))
+            self.assertEqual(len(found), count, page)
+            for folder, told, lines in found:
+                with self.subTest(page=page, told=told):
+                    self.assertEqual(self.printed(folder, "\n".join(told)), lines)
 
 
 if __name__ == "__main__":
