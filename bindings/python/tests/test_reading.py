@@ -1,6 +1,6 @@
 """How much of a file the program reads: what comes after the end of the bytes that the headers name changes nothing but the size
 on a page, and is not read if the file's size is known, except for the string table of an image whose sections have long names, and
-by `json --all`, which tells what the whole file decides. A file that comes by a pipe is read whole, so the two ways are compared.
+by `json --all`, which tells what the whole file decides. A file that comes by a pipe is read to its end, so the two ways are compared.
 A file that another process changes meanwhile gives what one of its states gives."""
 
 import contextlib
@@ -190,6 +190,27 @@ class Reading(unittest.TestCase):
                     self.assertEqual((status, printed.decode()), (1, f"fault {fault} image 0 file 0x{place:08x}\n"))
                     self.assertIn(b"standard input: ", complained)
 
+    def test_long_streams_that_are_no_images_take_no_memory(self):
+        # after the first bytes no more than their number is of use: it decides between the faults 1 and 3
+        limited = {"preexec_fn": lambda: resource.setrlimit(resource.RLIMIT_AS, (1 << 26, 1 << 26))}
+        for size, fault in ((200 << 20, 3), (1 << 32, 3), ((1 << 32) + 1, 1)):
+            for command in COMMANDS:
+                # a set needs the files of all its images, and is judged once they are read
+                if command == "map" or fault == 1 and command != "check":
+                    continue
+                with self.subTest(command=command, size=size), subprocess.Popen(["head", "-c", str(size), "/dev/zero"], stdout=subprocess.PIPE) as zeros:
+                    status, printed, complained = self.run_over(words_of(command, "-"), zeros.stdout, **limited)
+                    zeros.stdout.close()
+                    self.assertEqual(status, 1)
+                    if command == "show":
+                        self.assertIn(f"{size:,} bytes", printed.decode())
+                    elif command.startswith("json"):
+                        self.assertIn(f'"fault":{{"number":{fault},', printed.decode())
+                    else:
+                        place = 1 << 32 if fault == 1 else 0
+                        self.assertIn(f"fault {fault} image 0 file 0x{place:08x}\n", printed.decode())
+                        self.assertIn(b"standard input: ", complained)
+
     def test_a_file_without_a_size_is_read_whole(self):
         # the system gives the size 0 for it
         status, printed, _ = self.run_over(["check", "/proc/version"], subprocess.DEVNULL)
@@ -217,8 +238,10 @@ class Reading(unittest.TestCase):
 
     def test_devices_without_an_end_and_folders_end_the_program(self):
         limited = {"preexec_fn": lambda: resource.setrlimit(resource.RLIMIT_AS, (1 << 28, 1 << 28))}
-        for path, status in (("/dev/null", 1), ("/dev/zero", 4), ("/dev/full", 4), (str(self.path.parent), 3)):
+        for path, status in (("/dev/null", 1), ("/dev/zero", 1), ("/dev/full", 1), (str(self.path.parent), 3)):
             for command in COMMANDS:
+                # the files of a set are kept until it is judged
+                status = 4 if command == "map" and path in ("/dev/zero", "/dev/full") else status
                 with self.subTest(path=path, command=command):
                     self.assertEqual(self.run_over(words_of(command, path), subprocess.DEVNULL, **limited)[0], status)
 

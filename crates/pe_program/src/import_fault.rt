@@ -3,8 +3,8 @@
 use pe_delay::read_delay_imports;
 use pe_image::{import_at, lay_out};
 use pe_layout::Layout;
-use pe_tables::{Import, Key};
 use pe_page::ShownName;
+use pe_tables::{Import, Key};
 use pe_text::FaultText;
 use pe_view::{Fault, Place};
 use std::alloc::Allocator;

@@ -19,6 +19,7 @@ mod headed;
 mod image_files;
 mod import_fault;
 mod input;
+mod kept;
 mod layout_job;
 mod map_job;
 mod messages;

@@ -3,6 +3,7 @@
 ghost use Rattle.std.specs.Prelude.{◌-◌, ◌^◌, ◌<◌, ◌≤◌, OnOk};
 
 use crate::headed::{Headed, Heading};
+use crate::kept::{Kept, Reads, is_archive, read_kept};
 use crate::output::Output;
 use coff_archive_json::{archive_json, archive_json_text};
 use coff_archive_page::{show_archive, show_archive_text};
@@ -11,13 +12,15 @@ use pe_at::{Spot, at_each_sized, at_each_text};
 use pe_at_map::at_map;
 use pe_detail::{Detail, fault_detail};
 use pe_json::{Beyond, json_parts, json_sized, print_line};
-use pe_lines::{check_parts, check_sized, check_text, dump_parts, dump_sized, dump_text, sum_sized, sum_text};
+use pe_lines::{
+    check_parts, check_sized, check_text, dump_parts, dump_sized, dump_text, sum_sized, sum_text,
+};
 use pe_map_lines::{map_report, map_report_delayed, map_report_unbound};
 use pe_reach::{PartSource, Placed, ViewFile, size_fault};
 use pe_resource_files::{resource_list_sized, resource_list_text};
 use pe_show::{Page, ShowOptions, show_page_sized, show_page_text};
 use pe_space::{Policy, SetEntry};
-use pe_text::{Counted, FileKind, Outcome, Sink, Source, ToolError, file_kind, read_up_to, read_whole, write_refusal};
+use pe_text::{Counted, Outcome, READ_LIMIT, Sink, Source, ToolError, read_up_to, write_refusal};
 use pe_tool::{dump_either_object_sized, dump_object_sized};
 use pe_view::{Fault, View};
 use std::alloc::Allocator;
@@ -190,20 +193,34 @@ fn detail_in(file: &[u8], answer: Result<Outcome, ToolError>) -> Option<Detail> 
     }
 }
 
-/// Reads a file whole, and writes the output of an engine.
+/// What an engine reads files as.
+fn reads_of(lines: Lines<'_>) -> Reads {
+    match lines {
+        Lines::Check | Lines::Dump | Lines::Sum | Lines::Resources => Reads::Images,
+        Lines::Object | Lines::EitherObject => Reads::Objects,
+        Lines::At(_) => Reads::All,
+    }
+}
+
+/// Reads a file, which has `size` bytes if that is known, and writes the output of an engine.
 fn write_lines<A: Allocator + Copy, R: Source, W: Sink>(
     alloc: A,
     lines: Lines<'_>,
     reader: &mut R,
+    size: Option<u64>,
     writer: &mut W,
 ) -> Judged
     requires reads { R.failures reader.old < 2 ^ 64 - 1 }
     requires writes { W.failures writer.old < 2 ^ 64 - 1 }
 {
-    match read_whole(alloc, reader) {
-        Ok(file) => {
+    match read_kept(alloc, reads_of(lines), reader, size) {
+        Ok(Kept::Whole(file)) => {
             let answer = lines_of(alloc, lines, &file, writer);
             (answer, detail_in(&file, answer))
+        }
+        Ok(Kept::Refused { first, len, fault }) => {
+            let detail = fault_detail(View::new(&first), len, &fault);
+            (write_refusal(writer, fault), detail)
         }
         Err(failure) => (Err(failure), None),
     }
@@ -211,17 +228,6 @@ fn write_lines<A: Allocator + Copy, R: Source, W: Sink>(
 
 /// How many bytes the signature of an archive has.
 const SIGNATURE_LEN: usize = 8;
-
-/// How many bytes are read of a file: one more than an archive may have.
-const READ_LIMIT: usize = (1 << 32) + 1;
-
-/// Whether a file that begins so is an archive.
-fn is_archive(beginning: &[u8]) -> bool {
-    matches!(
-        file_kind(beginning),
-        Some(FileKind::Archive | FileKind::ThinArchive)
-    )
-}
 
 /// Writes the dump of an archive. Of another file no more is read than its first bytes.
 fn write_archive<A: Allocator + Copy, R: Source, W: Sink>(
@@ -273,7 +279,7 @@ fn json_of<A: Allocator + Copy, W: Sink>(
     }
 }
 
-/// Reads a file whole, and writes its page.
+/// Reads a file of an unknown size, and writes its page.
 fn write_page<A: Allocator + Copy, R: Source, W: Sink>(
     alloc: A,
     page: &Page,
@@ -283,11 +289,20 @@ fn write_page<A: Allocator + Copy, R: Source, W: Sink>(
     requires reads { R.failures reader.old < 2 ^ 64 - 1 }
     requires writes { W.failures writer.old < 2 ^ 64 - 1 }
 {
-    let file = read_whole(alloc, reader)?;
-    page_of(alloc, page, &file, writer)
+    match read_kept(alloc, Reads::All, reader, None)? {
+        Kept::Whole(file) => page_of(alloc, page, &file, writer),
+        Kept::Refused {
+            first,
+            len,
+            fault: _,
+        } => {
+            let mut reader = Counted::new(first.as_slice());
+            show_page_sized(alloc, page, &mut reader, len, writer)
+        }
+    }
 }
 
-/// Reads a file whole, and writes its lines of JSON.
+/// Reads a file of an unknown size, and writes its lines of JSON.
 fn write_json<A: Allocator + Copy, R: Source, W: Sink>(
     alloc: A,
     name: &[u8],
@@ -298,11 +313,20 @@ fn write_json<A: Allocator + Copy, R: Source, W: Sink>(
     requires reads { R.failures reader.old < 2 ^ 64 - 1 }
     requires writes { W.failures writer.old < 2 ^ 64 - 1 }
 {
-    let file = read_whole(alloc, reader)?;
-    json_of(alloc, name, beyond, &file, writer)
+    match read_kept(alloc, Reads::All, reader, None)? {
+        Kept::Whole(file) => json_of(alloc, name, beyond, &file, writer),
+        Kept::Refused {
+            first,
+            len,
+            fault: _,
+        } => {
+            let mut reader = Counted::new(first.as_slice());
+            json_sized(alloc, name, beyond, &mut reader, len, writer)
+        }
+    }
 }
 
-/// Runs an engine over a file whose size is not known, which is read whole.
+/// Runs an engine over a file whose size is not known, which is read to its end.
 fn write_whole<A: Allocator + Copy, R: Source, W: Sink>(
     alloc: A,
     engine: Engine,
@@ -314,10 +338,10 @@ fn write_whole<A: Allocator + Copy, R: Source, W: Sink>(
     requires writes { W.failures writer.old < 2 ^ 64 - 1 }
 {
     match engine {
-        Engine::Check => write_lines(alloc, Lines::Check, reader, writer),
-        Engine::Dump => write_lines(alloc, Lines::Dump, reader, writer),
-        Engine::Object => write_lines(alloc, Lines::Object, reader, writer),
-        Engine::EitherObject => write_lines(alloc, Lines::EitherObject, reader, writer),
+        Engine::Check => write_lines(alloc, Lines::Check, reader, None, writer),
+        Engine::Dump => write_lines(alloc, Lines::Dump, reader, None, writer),
+        Engine::Object => write_lines(alloc, Lines::Object, reader, None, writer),
+        Engine::EitherObject => write_lines(alloc, Lines::EitherObject, reader, None, writer),
         Engine::Archive => (write_archive(alloc, reader, writer), None),
         Engine::Show { options, width } => {
             let page = Page {
@@ -328,9 +352,9 @@ fn write_whole<A: Allocator + Copy, R: Source, W: Sink>(
             (write_page(alloc, &page, reader, writer), None)
         }
         Engine::Json { beyond } => (write_json(alloc, name, beyond, reader, writer), None),
-        Engine::Sum => write_lines(alloc, Lines::Sum, reader, writer),
-        Engine::At(spots) => write_lines(alloc, Lines::At(spots), reader, writer),
-        Engine::Resources => write_lines(alloc, Lines::Resources, reader, writer),
+        Engine::Sum => write_lines(alloc, Lines::Sum, reader, None, writer),
+        Engine::At(spots) => write_lines(alloc, Lines::At(spots), reader, None, writer),
+        Engine::Resources => write_lines(alloc, Lines::Resources, reader, None, writer),
     }
 }
 
@@ -357,12 +381,12 @@ fn write_sized<A: Allocator + Copy, R: Source, W: Sink>(
         Engine::Object if is_too_large(size) => {
             (dump_object_sized(alloc, reader, size, writer), None)
         }
-        Engine::Object => write_lines(alloc, Lines::Object, reader, writer),
+        Engine::Object => write_lines(alloc, Lines::Object, reader, Some(size), writer),
         Engine::EitherObject if is_too_large(size) => (
             dump_either_object_sized(alloc, reader, size, writer),
             None,
         ),
-        Engine::EitherObject => write_lines(alloc, Lines::EitherObject, reader, writer),
+        Engine::EitherObject => write_lines(alloc, Lines::EitherObject, reader, Some(size), writer),
         Engine::Archive => match size_fault(size) {
             Some(fault) => (write_refusal(writer, fault), None),
             None => (write_archive(alloc, reader, writer), None),
@@ -377,12 +401,12 @@ fn write_sized<A: Allocator + Copy, R: Source, W: Sink>(
         }
         Engine::Json { beyond } => (json_sized(alloc, name, beyond, reader, size, writer), None),
         Engine::Sum if is_too_large(size) => (sum_sized(alloc, reader, size, writer), None),
-        Engine::Sum => write_lines(alloc, Lines::Sum, reader, writer),
+        Engine::Sum => write_lines(alloc, Lines::Sum, reader, Some(size), writer),
         Engine::At(spots) => (at_each_sized(alloc, spots, reader, size, writer), None),
         Engine::Resources if is_too_large(size) => {
             (resource_list_sized(alloc, reader, size, writer), None)
         }
-        Engine::Resources => write_lines(alloc, Lines::Resources, reader, writer),
+        Engine::Resources => write_lines(alloc, Lines::Resources, reader, Some(size), writer),
     }
 }
 
