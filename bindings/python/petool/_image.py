@@ -397,6 +397,7 @@ class Image(TrustOfFile):
         self._symbols: Optional[Rows[ObjectSymbol]] = None
         self._functions: Optional[Rows[Function]] = None
         self._resources: Optional[Rows[Resource]] = None
+        self._bound_imports: Optional[Rows[BoundImport]] = None
         self._findings: Optional[Tuple[Finding, ...]] = None
         try:
             if check:
@@ -548,11 +549,16 @@ class Image(TrustOfFile):
         return ClrHeader._make(values) if values else None
 
     @property
-    def bound_imports(self) -> Tuple[BoundImport, ...]:
-        """The records of the bound import table before the first that is all zeros, in table order."""
-        layout, start = LAYOUTS["bound_import"], self.headers.directories[_BOUND_IMPORT].rva
-        rows = layout.struct.iter_unpack(self._beyond("bound_imports", layout))
-        return tuple(BoundImport(stamp, offset, count, self.text(start + offset)) for stamp, offset, count in rows)
+    def bound_imports(self) -> Sequence[BoundImport]:
+        """The records of the bound import table before the first that is all zeros, in table order, read when first needed."""
+        if self._bound_imports is None:
+            layout, start = LAYOUTS["bound_import"], self.headers.directories[_BOUND_IMPORT].rva
+
+            def make(stamp: int, offset: int, count: int) -> BoundImport:
+                return BoundImport(stamp, offset, count, self.text(start + offset))
+
+            self._bound_imports = Rows(self._beyond("bound_imports", layout), layout, make)
+        return self._bound_imports
 
     @property
     def delay_imports(self) -> Sequence[Import]:

@@ -24,6 +24,9 @@ EITHER_SECTION_ABSOLUTE = 0xFFFF_FFFF  #: the section number, in 32 bits, of a s
 EITHER_SECTION_DEBUG = 0xFFFF_FFFE  #: the section number, in 32 bits, of a symbol for debuggers
 # end of describe/records.txt
 
+#: How many relocations a section has, of its row, which begins with two strings.
+_RELOCATION_COUNTS = LAYOUTS["object_section"].only(8)
+
 #: At least how many relocations are read at once, if there are that many.
 _WINDOW = 4096
 
@@ -169,7 +172,7 @@ class Object(OfFile):
     def __init__(self, data: Buffer, *, file: Optional[str] = None, big: bool = False) -> None:
         super().__init__(data, file)
         self._calls = _OF_EITHER if big else _OF_PLAIN
-        self._sections: Optional[Tuple[ObjectSection, ...]] = None
+        self._sections: Optional[Rows[ObjectSection]] = None
         self._starts: Optional[List[int]] = None
         self._window = 0, memoryview(b"")
         self._symbols: Optional[Rows[ObjectSymbol]] = None
@@ -226,10 +229,14 @@ class Object(OfFile):
         return header, tuple(map(_section_header_of, rows[:room]))
 
     @property
-    def sections(self) -> Tuple[ObjectSection, ...]:
+    def sections(self) -> Sequence[ObjectSection]:
+        """In the order of the section table."""
+        return self._section_rows()
+
+    def _section_rows(self) -> Rows[ObjectSection]:
         if self._sections is None:
             rows = self._rows(self._calls.sections, LAYOUTS["object_section"])
-            self._sections = tuple(Rows(rows, LAYOUTS["object_section"], _maker(self._file, ObjectSection)))
+            self._sections = Rows(rows, LAYOUTS["object_section"], _maker(self._file, ObjectSection))
         return self._sections
 
     @property
@@ -246,8 +253,8 @@ class Object(OfFile):
         They are read with those of the sections after it, some thousands at once, so go through the sections in order.
         """
         if self._starts is None:
-            self._starts = list(accumulate((it.relocation_count for it in self.sections), initial=0))
-        if not 0 <= section < len(self.sections):
+            self._starts = list(accumulate((count for count, in self._section_rows().parts(_RELOCATION_COUNTS)), initial=0))
+        if not 0 <= section < len(self._starts) - 1:
             raise IndexError("there is no section of this index")
         start, end = self._starts[section], self._starts[section + 1]
         size = LAYOUTS["object_relocation"].size

@@ -123,9 +123,17 @@ def version_by(file: FileBytes, ask: Callable[..., int], rows: Callable[[], memo
     """The version information that calls have: its fixed part, and the rows of its strings."""
     found = _records.VersionInfo()
     fixed = None if ask(library.petool_version, ctypes.byref(found)) == _library.ABSENT else found
-    each = LAYOUTS["version_text"].struct.iter_unpack(rows())
-    strings = tuple(VersionString(*(_text(file, *pair) for pair in zip(row[::2], row[1::2]))) for row in each)
+    strings = tuple(_strings_of(file, rows()))
     return Version(fixed, strings) if fixed is not None or strings else None
+
+
+def _strings_of(file: FileBytes, rows: memoryview) -> Iterator[VersionString]:
+    """The strings of version information: the key of a table is copied once, and not for each of its strings."""
+    place, table = (0, 0), ""
+    for at, length, *others in LAYOUTS["version_text"].struct.iter_unpack(rows):
+        if (at, length) != place:
+            place, table = (at, length), _text(file, at, length)
+        yield VersionString(table, _text(file, *others[:2]), _text(file, *others[2:]))
 
 
 def manifest_by(file: FileBytes, ask: Callable[..., int]) -> Optional[bytes]:

@@ -177,12 +177,12 @@ class Beyond(unittest.TestCase):
     def test_bound_imports(self):
         table = struct.pack("<IHHIHH", 0x14131211, 24, 1, 0x24232221, 0xFFFF, 0x3231) + bytes(8) + b"a.dll\0"
         with petool.Image(image(11, 24, table)) as it:
-            self.assertEqual(it.bound_imports, ((0x14131211, 24, 1, b"a.dll"), (0x24232221, 0xFFFF, 0x3231, None)))
+            self.assertEqual(tuple(it.bound_imports), ((0x14131211, 24, 1, b"a.dll"), (0x24232221, 0xFFFF, 0x3231, None)))
 
     def test_an_image_without_these_tables(self):
         with petool.Image(data("v1.dll")) as it:
             self.assertEqual((list(it.debug), it.pdb, list(it.functions), it.findings), ([], None, [], ()))
-            self.assertEqual((it.tls, it.load_configuration, it.clr, it.bound_imports), (None, None, None, ()))
+            self.assertEqual((it.tls, it.load_configuration, it.clr, tuple(it.bound_imports)), (None, None, None, ()))
 
     def test_a_table_of_a_closed_image(self):
         it = petool.Image(data("v1.dll"))

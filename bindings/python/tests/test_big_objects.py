@@ -224,7 +224,7 @@ class Rows(InFolder):
             self.assertTrue(found.is_big)
             self.assertEqual(found.big_header, petool.BigObjectHeader(2, 0x8664, 7, 0, 0, 0, 0, 1, 107, 2))
             self.assertEqual(found.section_headers, (petool.SectionHeader(b".text\0\0\0", 0, 0, 1, 96, 97, 0, 1, 0, 0x60000020),))
-            self.assertEqual(found.sections, (petool.ObjectSection(b".text", b"\xc3", 0, 0, 0, 0x60000020, 1),))
+            self.assertEqual(tuple(found.sections), (petool.ObjectSection(b".text", b"\xc3", 0, 0, 0, 0x60000020, 1),))
             self.assertEqual(list(found.relocations(0)), [petool.ObjectRelocation(0, 1, 4)])
             self.assertEqual(list(found.symbols), [petool.ObjectSymbol(b"f", bytes(range(0x81, 0x95)), 0, 0x11223344, 1, 0x20, 2)])
             with self.assertRaises(IndexError):
@@ -243,7 +243,7 @@ class Rows(InFolder):
         for name in ("o1.obj", "two.obj"):
             with petool.Object(data(name)) as plain, petool.Object(data(name), big=True) as found:
                 self.assertFalse(plain.is_big or found.is_big)
-                self.assertEqual((found.header, found.section_headers, found.sections), (plain.header, plain.section_headers, plain.sections))
+                self.assertEqual((found.header, found.section_headers, *found.sections), (plain.header, plain.section_headers, *plain.sections))
                 for section_index in range(len(plain.sections)):
                     self.assertEqual(list(found.relocations(section_index)), list(plain.relocations(section_index)))
                 narrow = [(it.name, it.aux, it.index, it.value, it.section_number, it.kind, it.storage_class) for it in plain.symbols]

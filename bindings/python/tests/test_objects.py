@@ -89,7 +89,7 @@ def shared():
 class Rows(unittest.TestCase):
     def test_o1_is_read(self):
         with petool.Object(data("o1.obj")) as found:
-            self.assertEqual(found.sections, (O1_SECTION,))
+            self.assertEqual(tuple(found.sections), (O1_SECTION,))
             self.assertEqual(list(found.relocations(0)), [petool.ObjectRelocation(1, 3, 4)])
             with self.assertRaises(IndexError):
                 found.relocations(1)
@@ -109,7 +109,7 @@ class Rows(unittest.TestCase):
 
     def test_a_header_alone_holds_nothing(self):
         with petool.Object(bytes(20)) as found:
-            self.assertEqual((found.sections, list(found.symbols)), ((), []))
+            self.assertEqual((list(found.sections), list(found.symbols)), ([], []))
 
 
 @unittest.skipUnless(PROGRAM, "left out without program: PETOOL_PROGRAM names none")
