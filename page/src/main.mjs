@@ -156,7 +156,7 @@ function choose(session) {
     showPlace(wanted?.place ?? targetOf(session.line.fault) ?? { offset: 0, name: 'the beginning' });
     begun = selected;
   }
-  byId('more').hidden = true;
+  sayOfTables('');
   if (session.isImage && !session.isPending) {
     addTables(session);
   }
@@ -170,16 +170,18 @@ function showHead(session) {
   showFacts(session, { showTab: id => tabs.take(id), select });
 }
 
+/** Says of the tables beyond the profile that they are not there, and why. @param {string} words */
+function sayOfTables(words) {
+  byId('more').hidden = !words;
+  byId('more').textContent = words;
+}
+
 /** The tables beyond the profile, which take longer. @param {Session} session */
 async function addTables(session) {
-  byId('more').hidden = session.hasAll;
-  try {
-    await session.addAll();
-  } catch (error) {
-    tell(about(error.message, session));
-  }
+  sayOfTables(session.hasAll ? '' : 'The other tables are being read ..');
+  await session.addAll().catch(() => {});
   if (session === current) {
-    byId('more').hidden = true;
+    sayOfTables(session.missing && `The other tables are missing: ${session.missing}.`);
     showHead(session);
     offerTabs();
     offerTable();

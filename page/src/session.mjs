@@ -70,6 +70,8 @@ export class Session {
     this.members = [];
     /** whether the line has the tables beyond the profile */
     this.hasAll = false;
+    /** why it has not, if they were asked for */
+    this.missing = '';
     this.parts = [];
     /** what was shown of it last @type {{ place: import('./place.mjs').Target | null, tab: string } | null} */
     this.left = null;
@@ -158,9 +160,11 @@ export class Session {
     this.#all ??= this.#ask('all', [{ functions: true, symbols: true, digests: true }]).then(text => {
       this.line = linesOf(text).at(-1);
       this.hasAll = true;
+      this.missing = '';
     });
-    this.#all.catch(() => {
+    this.#all.catch(error => {
       this.#all = null;
+      this.missing = error.message;
     });
     return this.#all;
   }

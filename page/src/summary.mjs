@@ -20,10 +20,13 @@ const PROTECTIONS = { DYNAMIC_BASE: 'may stand at any address', HIGH_ENTROPY_VA:
 const CHANGED = 'the file was changed since';
 const NO_DIGEST = 'not verified here, and no digest in it can be read';
 const NOT_COMPARED = 'not verified here, and whether it fits is not told, since digests of its algorithm are not compared';
-const NOT_TOLD = 'not verified here, and whether it fits is not told, since where its certificate table lies the file has no digest';
+const NOT_TOLD = 'not verified here, and whether it fits is not told, since what a signature of this file signs is ambiguous';
 const FITS = 'not verified here, but its digest fits';
 /** What the page says of signatures, the worst first. */
 const VERDICTS = [CHANGED, NO_DIGEST, NOT_COMPARED, NOT_TOLD, FITS];
+
+/** The facts that are missing without the tables beyond the profile, and are worth to be missed. */
+const MISSED = ['Product', 'Signed', 'Findings'];
 
 const has = (headers, flag) => headers.characteristics_flags?.includes(flag);
 
@@ -148,9 +151,10 @@ function beyondFacts({ version, certificates, pdb, clr, findings }) {
 }
 
 /** What people ask for first. @param {import('./session.mjs').Session} session @returns {Fact[]} */
-export function factsOf({ line, isImage, hasAll }) {
+export function factsOf({ line, isImage, hasAll, missing }) {
   if (isImage) {
-    return [...hasAll ? beyondFacts(line) : [], ...headerFacts(line)];
+    const missed = missing ? MISSED.map(term => ({ term, words: 'not told' })) : [];
+    return [...hasAll ? beyondFacts(line) : missed, ...headerFacts(line)];
   }
   if (isObjectFormat(line.format) && line.sections) {
     return [

@@ -24,7 +24,7 @@ export class TextView {
   #session;
   #id;
   #text = element('pre', { tabindex: 0 }, 'A moment ..');
-  /** that the text goes on, which stands before what a file may say itself */
+  /** what the text lacks, which stands before what a file may say itself */
   #rest = element('p', { class: 'hint', hidden: true });
 
   /**
@@ -46,8 +46,13 @@ export class TextView {
   async #show() {
     const text = await this.#told(shortening(), 1);
     this.#text.textContent = text.slice(0, MOST_LETTERS);
-    this.#rest.hidden = text.length <= MOST_LETTERS;
-    this.#rest.textContent = `These are the first ${count(MOST_LETTERS)} letters; what is copied has all.`;
+    const { missing } = this.#session;
+    const lacks = [
+      this.#id === 'json' && missing && `This lacks the other tables: ${missing}.`,
+      text.length > MOST_LETTERS && `These are the first ${count(MOST_LETTERS)} letters; what is copied has all.`,
+    ].filter(Boolean);
+    this.#rest.hidden = !lacks.length;
+    this.#rest.textContent = lacks.join(' ');
   }
 
   /** The text, where the lines of JSON are written so. */

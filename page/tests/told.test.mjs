@@ -40,7 +40,7 @@ describe('chromium', process.env.CHROMIUM ? {} : { skip: 'left out without chrom
     await browser.drop([join(folder, name)]);
     await browser.until(`document.querySelectorAll("#files li").length === ${there + 1} && !document.querySelector("#files progress")`);
     await browser.ask('document.querySelector("#files li:last-child button").click()');
-    await browser.until('document.getElementById("more").hidden || !/being read/.test(document.getElementById("more").textContent)');
+    await browser.until('!/being read/.test(document.getElementById("more").textContent)');
   }
 
   const text = id => browser.ask(`document.getElementById(${JSON.stringify(id)}).textContent`);
@@ -79,6 +79,20 @@ describe('chromium', process.env.CHROMIUM ? {} : { skip: 'left out without chrom
     await browser.ask('document.getElementById("tab-map").click()');
     const shown = await browser.ask('[...document.querySelectorAll(".map-images label")].map(label => label.textContent)');
     assert.ok(shown.includes(' m at 0x0.dll'), shown.join());
+  });
+
+  test('what is missing is said, if the tables beyond the profile cannot be had', async () => {
+    await show('large.dll', { line: lineOf() });
+    const why = 'there is not enough memory for this';
+    assert.deepEqual(await Promise.all(['Product', 'Signed', 'Findings'].map(factOf)), ['not told', 'not told', 'not told']);
+    assert.equal(await text('more'), `The other tables are missing: ${why}.`);
+    assert.equal(await browser.ask('document.getElementById("more").checkVisibility()'), true);
+    await browser.ask('document.getElementById("tab-json").click()');
+    await browser.until('!/A moment/.test(document.getElementById("panel").textContent)');
+    assert.match(await text('panel'), new RegExp(`^Copy allThis lacks the other tables: ${why}\\.\\{`));
+    // another file has them
+    await show('small.dll', { line: lineOf(), all: lineOf() });
+    assert.deepEqual([await factOf('Signed'), await text('more')], ['no', '']);
   });
 
   /** What takes so long that nothing can be clicked meanwhile is kept from now on, in milliseconds. */

@@ -201,6 +201,12 @@ test('whether a signature fits stands before whose it is, whatever name that has
   assert.equal(factOf({ certificates: [signature('Example')] }, 'Signed'), 'not verified here, but its digest fits: by Example');
 });
 
+test('without the tables beyond the profile nothing is said of signatures, but that it is not told', () => {
+  const termsOf = rest => factsOf({ line: { headers: HEADERS }, isImage: true, hasAll: false, ...rest }).filter(({ words }) => words === 'not told').map(({ term }) => term);
+  assert.deepEqual(termsOf({ missing: 'there is not enough memory' }), ['Product', 'Signed', 'Findings']);
+  assert.deepEqual(termsOf({ missing: '' }), []);
+});
+
 test('what is not told of a signature is not said of it', () => {
   const untold = [{}, { digest_algorithm: undefined }, { digest_algorithm: undefined, digest_hex: undefined }];
   for (const rest of untold) {
