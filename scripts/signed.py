@@ -8,9 +8,10 @@ PETOOL is the program. A PATH is an image or a folder, of which all files that b
 fields, single bytes or the certificate table changed, moved, cut off or extended. CERTIFICATE is that of images that were signed by
 it; of the others sbverify is given those that are in the signature.
 
-Where petool tells a digest, osslsigncode must compute the same, and the digest of the signature must fit by both; sbverify must then
-accept the file, and refuse one that does not fit. Where petool tells none, it must be a case that the text's rule leaves ambiguous, and
-finding 225 must say so. Differences are printed one by one; the last lines count the files. Needs osslsigncode, sbverify and openssl.
+Where petool tells a digest, osslsigncode must compute the same, and the digest of the signature must fit by both or by neither. By a
+digest of SHA-256, which is all that it knows, sbverify must accept a file that fits, unless its signature was changed, and refuse one that
+does not. Where petool tells none, it must be a case that the text's rule leaves ambiguous, and finding 225 must say so. Differences are
+printed one by one; the last lines count the files. Needs osslsigncode, sbverify and openssl.
 """
 
 import collections
@@ -30,6 +31,12 @@ from pages_trust import Trust
 
 COUNTS = collections.Counter()
 SOURCES = 5
+#: How many files petool is given at once.
+BATCH = 20
+
+
+#: Of an image: certificates by which sbverify may accept it, and its certificate table.
+Source = collections.namedtuple("Source", ["certificates", "table"])
 
 
 def run(*words):
@@ -45,25 +52,13 @@ def places(file):
 
 
 def table_over_text(file, seed):
-    """The table is moved to where the raw data of the first section are, and its last bytes are what was there."""
+    """The table is moved to where the raw data of the first section are, which then hold the table and what does not go behind the
+    end. All other bytes keep their order, so that a digest of the file without the table still fits."""
     _, _, entry, sections = places(file)
     at, size = struct.unpack_from("<II", file, entry)
-    raw_size, pointer = struct.unpack_from("<II", file, sections[0] + 16)
-    table, code = file[at : at + size], file[pointer : pointer + raw_size]
-    other = bytearray(file[:pointer] + table + code[size:] + file[pointer + raw_size : at] if raw_size >= size else file)
-    struct.pack_into("<II", other, entry, pointer, size)
-    return other
-
-
-def table_before_text(file, seed):
-    """The table is put before the raw data of the first section, which move behind all others, with other bytes in their place."""
-    _, _, entry, sections = places(file)
-    at, size = struct.unpack_from("<II", file, entry)
-    raw_size, pointer = struct.unpack_from("<II", file, sections[0] + 16)
-    other = bytearray(file[:at] + file[pointer : pointer + raw_size])
-    other[pointer : pointer + size] = file[at : at + size]
-    struct.pack_into("<I", other, sections[0] + 20, at)
-    struct.pack_into("<II", other, entry, pointer, size)
+    pointer = struct.unpack_from("<I", file, sections[0] + 20)[0]
+    other = bytearray(file[:pointer] + file[at : at + size] + file[pointer:at] + file[at + size :])
+    struct.pack_into("<I", other, entry, pointer)
     return other
 
 
@@ -98,7 +93,8 @@ def headers_changed(file, seed):
 
 def byte_changed(file, seed):
     other, (_, field, entry, _) = bytearray(file), places(file)
-    at = seed.choice([seed.randrange(len(file)), seed.randrange(1024), field + seed.randrange(4), entry + seed.randrange(8), struct.unpack_from("<I", file, entry)[0] - 1])
+    last = struct.unpack_from("<I", file, entry)[0] - 1
+    at = seed.choice([seed.randrange(len(file)), seed.randrange(1024), field + seed.randrange(4), entry + seed.randrange(8), last])
     other[at] ^= 1 << seed.randrange(8)
     return other
 
@@ -121,7 +117,18 @@ def inserted(file, seed):
     return other
 
 
-CHANGES = [table_over_text, table_before_text, entry_changed, section_changed, sections_exchanged, headers_changed, byte_changed, byte_changed, cut, extended, inserted]
+CHANGES = [
+    table_over_text,
+    entry_changed,
+    section_changed,
+    sections_exchanged,
+    headers_changed,
+    byte_changed,
+    byte_changed,
+    cut,
+    extended,
+    inserted,
+]
 
 
 def mutants(files, count):
@@ -136,12 +143,17 @@ def by_osslsigncode(path):
     return [bytes.fromhex(it.decode()) for it in found[:2]] if len(found) >= 2 else None
 
 
+def table_of(file):
+    """The bytes of the certificate table."""
+    at, size = struct.unpack_from("<II", file, places(file)[2])
+    return file[at : at + size]
+
+
 def certificates_in(file):
-    """The certificates in the first signature, as a file of PEM."""
-    _, _, entry, _ = places(file)
-    at = struct.unpack_from("<I", file, entry)[0]
-    size = struct.unpack_from("<I", file, at)[0]
-    done = subprocess.run(["openssl", "pkcs7", "-inform", "DER", "-print_certs"], input=file[at + 8 : at + size], capture_output=True, check=False)
+    """The certificates in the first signature, as files of PEM."""
+    table = table_of(file)
+    size = struct.unpack_from("<I", table)[0]
+    done = subprocess.run(["openssl", "pkcs7", "-inform", "DER", "-print_certs"], input=table[8:size], capture_output=True, check=False)
     return [it + b"-----END CERTIFICATE-----\n" for it in re.findall(rb"-----BEGIN CERTIFICATE-----.*?(?=-----END)", done.stdout, re.S)]
 
 
@@ -172,7 +184,7 @@ def reason(trust):
     return "the raw data pass the file" if end > len(trust.file) else None
 
 
-def check(path, line, certificates):
+def check(path, line, source):
     """Compares what a line says of a file, and counts it. Yields what differs."""
     file = path.read_bytes()
     if "format" not in line:
@@ -205,21 +217,27 @@ def check(path, line, certificates):
         computed = {"SHA-1": "sha1", "SHA-256": "sha256", "SHA-384": "sha384", "SHA-512": "sha512"}[signature["digest_algorithm"]]
         if theirs != [bytes.fromhex(signature["digest_hex"]), hashlib.new(computed, message).digest()] or signature["fits"] != (theirs[0] == theirs[1]):
             yield f"petool {signature}, osslsigncode {[it.hex() for it in theirs]}"
-    is_accepted = accepts(path, certificates)
+    if signature["digest_algorithm"] != "SHA-256":
+        return
+    is_accepted, is_changed = accepts(path, source.certificates), table_of(file) != source.table
     COUNTS["of these accepted by sbverify"] += is_accepted
-    if is_accepted and not signature["fits"]:
-        yield "sbverify accepts a file that does not fit"
-    if signature["fits"] and not is_accepted:
-        COUNTS["of these that fit and that sbverify does not accept"] += 1
-        print(f"{path.name}: not accepted by sbverify")
+    COUNTS["of these that fit and whose signature was changed"] += signature["fits"] and is_changed
+    if is_accepted if not signature["fits"] else not is_accepted and not is_changed:
+        yield f"petool {signature['fits']}, sbverify {is_accepted}"
 
 
-def compare(petool, paths, certificates):
-    """Compares all files, of which petool reads all at once."""
-    done = subprocess.run([petool, "json", "--all", *map(str, paths)], stdout=subprocess.PIPE, check=False)
-    lines = [json.loads(it) for it in done.stdout.splitlines() if it.startswith(b"{")]
-    for path, line in zip(paths, lines, strict=True):
-        for difference in check(path, line, certificates[path]):
+def lines_of(petool, paths):
+    """What petool says of each file."""
+    for start in range(0, len(paths), BATCH):
+        some = [str(it) for it in paths[start : start + BATCH]]
+        done = subprocess.run([petool, "json", "--all", *some], stdout=subprocess.PIPE, check=False)
+        yield from map(json.loads, done.stdout.splitlines())
+
+
+def compare(petool, paths, sources):
+    """Compares what petool says of each file, given what the images are of which they were made."""
+    for path, line in zip(paths, lines_of(petool, paths), strict=True):
+        for difference in check(path, line, sources[path]):
             COUNTS["differences"] += 1
             print(f"{path}: {difference}")
 
@@ -227,16 +245,16 @@ def compare(petool, paths, certificates):
 def main(petool, count, certificate, *folders):
     own = pathlib.Path(certificate).read_bytes()
     paths = [pathlib.Path(it) for folder in folders for it in images(folder)]
-    certificates = {it: [own, *certificates_in(it.read_bytes())] for it in paths}
+    files = {it: it.read_bytes() for it in paths}
+    sources = {it: Source([own, *certificates_in(file)], table_of(file)) for it, file in files.items()}
     print(f"{len(paths)} images")
     with tempfile.TemporaryDirectory() as folder:
-        sources = [it.read_bytes() for it in paths[:SOURCES]]
         made = []
-        for k, mutant in enumerate(mutants(sources, int(count))):
+        for k, mutant in enumerate(mutants([files[it] for it in paths[:SOURCES]], int(count))):
             made.append(pathlib.Path(folder) / f"{k}-{CHANGES[k % len(CHANGES)].__name__}")
             made[-1].write_bytes(mutant)
-            certificates[made[-1]] = certificates[paths[k // len(CHANGES) % len(sources)]]
-        compare(petool, [*paths, *made], certificates)
+            sources[made[-1]] = sources[paths[k // len(CHANGES) % SOURCES]]
+        compare(petool, [*paths, *made], sources)
     for name, number in COUNTS.items():
         print(f"{number} {name}")
     return COUNTS["differences"] > 0
