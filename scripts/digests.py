@@ -5,9 +5,10 @@ sign with pesign, if that is there.
 
     digests.py PATH...
 
-A PATH is an image or a folder, of which all files that begin with MZ are used; those that petool refuses, that have no signature, or that
-osslsigncode cannot read, such as those with two signatures, are counted and left out. Differences are printed one by one; the last line
-counts the files. Needs osslsigncode, and the package on PYTHONPATH with its library, as bindings/python/README.md says.
+A PATH is an image or a folder, of which all files that begin with MZ are used; those that petool refuses, that have no signature, of
+which it is ambiguous what a signature signs, or that osslsigncode cannot read, such as those with two signatures, are counted and left
+out. Differences are printed one by one; the last line counts the files. Needs osslsigncode, and the package on PYTHONPATH with its
+library, as bindings/python/README.md says.
 """
 
 import collections
@@ -42,7 +43,7 @@ def theirs(path):
 def ours(trust):
     """The same as petool has it of the first signature, with all of its certificates."""
     first = trust.authenticode[0]
-    own = trust.authenticode_digest(first.algorithm) or b""
+    own = trust.authenticode_digest(first.algorithm)
     return list(trust.check_sum), [int.from_bytes(it, "big") for it in (first.digest, own)], {it.serial for it in first.signers}
 
 
@@ -50,12 +51,12 @@ def compare_digest(path, digest):
     """Compares the digest that a signature would sign with that of pesign."""
     done = subprocess.run(["pesign", "-h", "-d", "sha256", "-i", path], stdout=subprocess.PIPE, stderr=subprocess.DEVNULL, text=True, check=False)
     found = re.search(r"\b[0-9a-f]{64}\b", done.stdout)
-    if found is None:
+    if found is None or digest is None:
         return
     COUNTS["by pesign"] += 1
-    if found[0] != (digest or b"").hex():
+    if found[0] != digest.hex():
         COUNTS["differences"] += 1
-        print(f"{path}: petool {digest and digest.hex()}, pesign {found[0]}")
+        print(f"{path}: petool {digest.hex()}, pesign {found[0]}")
 
 
 def compare(path):
@@ -71,6 +72,9 @@ def compare(path):
             compare_digest(path, trust.authenticode_digest("sha256"))
         if not any(it.algorithm for it in trust.authenticode):
             COUNTS["unsigned"] += 1
+            return
+        if trust.authenticode_digest() is None:
+            COUNTS["ambiguous"] += 1
             return
         own, other = ours(trust), theirs(path)
         fits = [it.fits for it in trust.authenticode]
@@ -88,7 +92,7 @@ def main(*paths):
     for path in paths:
         for file in images(path):
             compare(file)
-    print(", ".join(f"{COUNTS[it]} {it}" for it in ("files", "fit", "unsigned", "unread", "refused", "by pesign", "differences")))
+    print(", ".join(f"{COUNTS[it]} {it}" for it in ("files", "fit", "unsigned", "ambiguous", "unread", "refused", "by pesign", "differences")))
     return COUNTS["differences"] > 0
 
 
