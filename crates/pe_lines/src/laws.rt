@@ -20,7 +20,7 @@ pub fn texts_agree()
 }
 
 /// If what a signature signs is not ambiguous, each byte of the laid-out image that the file holds is in the file before the certificate
-/// table; all others are zeros. So a digest that is told is of all that is loaded, but CheckSum and the entry of directory 4.
+/// table; all others are zeros. So a digest that is told is of all that is laid out, but CheckSum and the entry of directory 4.
 pub fn loaded_bytes_are_before_the_table()
     ensures { (file signed : List ℕ) (h : Headers) (rva : ℕ) → authenticode_bytes file h ≡ Some signed
         → IfSome (file_offset (located h rva)) (λ offset. offset < table_begin (length file) h) }

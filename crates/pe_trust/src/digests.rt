@@ -82,8 +82,8 @@ fn sha2_of<D: Digest>(parts: &Parts) -> D::Output
 /// certificate table ("Windows Authenticode Portable Executable Signature Format", Calculating the PE Image Hash).
 ///
 /// `None` if that is not what the text's rule hashes: if the entry is not in the headers, raw data do not follow the headers without a gap
-/// or an overlap, or the certificate table is not after them at the end of the file. So what is loaded of a file that has a digest comes
-/// from before the certificate table.
+/// or an overlap, or the certificate table is not after them at the end of the file. So the headers and the raw data of all sections of
+/// a file that has a digest lie before its certificate table.
 pub fn authenticode_sha1(file: View, headers: &Headers) -> Option<[u8; 20]>
     ensures { result ≡ option_map sha1 (authenticode_bytes (bytes_of file.entry) headers.now) }
 {

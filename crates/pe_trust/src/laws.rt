@@ -21,8 +21,8 @@ pub fn all_others_are_signed()
     ensures { (file signed : List ℕ) (h : Headers) → authenticode_bytes file h ≡ Some signed → signed ≡ bytes_not_left_out file h }
 {}
 
-/// If what a signature signs is not ambiguous, all that is loaded comes from before the certificate table: the headers end before it, the
-/// raw data of each section lie between the headers and it, and it is in the file.
+/// If what a signature signs is not ambiguous, the headers end before the certificate table, the raw data of each section lie between the
+/// headers and that table, and it begins in the file.
 pub fn raw_data_are_before_the_table()
     ensures headers { (file signed : List ℕ) (h : Headers) → authenticode_bytes file h ≡ Some signed → h.size_of_headers ≤ table_begin (length file) h }
     ensures raw_data { (file signed : List ℕ) (h : Headers) → authenticode_bytes file h ≡ Some signed
