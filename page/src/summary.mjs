@@ -57,7 +57,16 @@ function madeAt({ headers, debug }) {
   return new Date(stamp * 1000).toISOString().replace('T', ' ').replace('.000Z', ' UTC');
 }
 
-const stringOf = (version, key) => version?.strings?.find(each => each.key === key && each.value)?.value;
+/** The first string of a key that says something. */
+function stringOf(version, key) {
+  for (const { strings } of version?.string_tables ?? []) {
+    const found = strings.find(each => each.key === key && each.value);
+    if (found) {
+      return found.value;
+    }
+  }
+  return undefined;
+}
 
 /** The first of these names, behind how many there are. @param {string[]} names @param {string} thing that they name @param {number} most */
 function firstOf(names, thing, most) {

@@ -107,9 +107,10 @@ function relocationsOf({ sections, symbols = [] }) {
 }
 
 /** The strings of version information and its numbers in one list. */
-function versionRows({ strings, file_version: file, product_version: product, ...fixed }) {
+function versionRows({ string_tables: tables, file_version: file, product_version: product, ...fixed }) {
   const versions = { file_version: file?.join('.'), product_version: product?.join('.') };
-  return [...fieldsOf({ ...versions, ...fixed }), ...(strings ?? []).map(({ table, key, value }) => ({ field: key, value, table }))];
+  const rows = (tables ?? []).flatMap(({ key: table, strings }) => strings.map(({ key, value }) => ({ field: key, value, table })));
+  return [...fieldsOf({ ...versions, ...fixed }), ...rows];
 }
 
 /** A member of an archive in one row. */

@@ -19,7 +19,7 @@ export function imageLine(rows) {
     fixups: rowsOf(rows, index => ({ rva: 4096 * index, bits: 32 })),
     delay_imports: rowsOf(rows, index => ({ module: `d${index}.dll`, ordinal: index, slot: 4096 + 4 * index })),
     resources: rowsOf(rows, index => ({ rva: 4096, size: 1, code_page: 0, type: index, name: `r${index}`, language: 1033 })),
-    version: { rva: 4096, file_version: [1, 2, 3, 4], strings: rowsOf(rows, index => ({ table: '040904b0', key: `k${index}`, value: 'v' })) },
+    version: { rva: 4096, file_version: [1, 2, 3, 4], string_tables: [{ key: '040904b0', strings: rowsOf(rows, index => ({ key: `k${index}`, value: 'v' })) }, ...rowsOf(rows, index => ({ key: `t${index}`, strings: [] }))] },
     functions: rowsOf(rows, index => ({ begin: 4096, end: 4097, unwind: 8192 + index })),
     symbols: rowsOf(rows, index => ({ index, name: `s${index}`, value: index, section_number: 1 + (index % 1000) })),
     debug: rowsOf(rows, index => ({ type: 2, type_name: 'CODEVIEW', size_of_data: 1, address_of_raw_data: 4096, pointer_to_raw_data: 512 + index })),

@@ -122,6 +122,14 @@ test('a resource is called by what its id stands for, and a text is a name of it
   assert.deepEqual(rows.map(({ type }) => shows.type(type)), ['16 version', '16', 'constructor', '4711']);
 });
 
+test('each string of version information has the key of its table', () => {
+  const version = { rva: 4096, file_version: [1, 2, 3, 4], string_tables: [{ key: '040904b0', strings: [{ key: 'ProductName', value: 'a' }] }, { key: '000004b0', strings: [{ key: 'ProductName', value: 'b' }] }] };
+  const { rows } = tablesOf({ headers: {}, version }, [], false).find(({ id }) => id === 'version');
+  assert.deepEqual(rows, [
+    { field: 'file_version', value: '1.2.3.4' }, { field: 'rva', value: '0x1000' }, { field: 'ProductName', value: 'a', table: '040904b0' }, { field: 'ProductName', value: 'b', table: '000004b0' },
+  ]);
+});
+
 test('images get their own base, unless another has it', () => {
   const headers = ['0x10000000', '0x10000000', '0x180000000'].map(image_base => ({ image_base, size_of_image: 0x12345 }));
   assert.deepEqual(spread(headers), [0x10000000n, 0x10020000n, 0x180000000n]);
@@ -238,7 +246,7 @@ test('how many modules there are stands before their names, and each other name 
   const imports = Array.from({ length: 9 }, (_, index) => ({ module: index ? `m${index}.dll` : `m0${' '.repeat(500)}.dll` }));
   assert.equal(factOf({ imports: imports.slice(0, 2) }, 'Imports'), '2, from m0 .dll, m1.dll');
   assert.equal(factOf({ imports }, 'Imports'), '9, from 9 modules, the first of them m0 .dll, m1.dll, m2.dll, m3.dll, m4.dll, m5.dll');
-  const version = { file_version: [1, 2, 3, 4], strings: [{ key: 'ProductName', value: 'y'.repeat(500) }] };
+  const version = { file_version: [1, 2, 3, 4], string_tables: [{ key: 't', strings: [] }, { key: 'u', strings: [{ key: 'ProductName', value: '' }, { key: 'ProductName', value: 'y'.repeat(500) }] }] };
   assert.deepEqual([factOf({ version }, 'Version'), factOf({ version }, 'Product')], ['1.2.3.4', `${'y'.repeat(200)}..`]);
 });
 
