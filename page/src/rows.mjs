@@ -25,7 +25,6 @@ export class Rows {
   #shown;
   #order = null;
   #filter = '';
-  #texts = new WeakMap();
   #choose;
   #tell;
   #changed;
@@ -120,18 +119,28 @@ export class Rows {
     this.#arrange();
   }
 
-  /** What a filter looks in, made once for each row. */
-  #textOf(row) {
-    let text = this.#texts.get(row);
-    if (text === undefined) {
-      text = this.#columns.map(key => this.#cell(key, row)).join('\t').toLowerCase();
-      this.#texts.set(row, text);
-    }
-    return text;
+  /** What says whether a cell's text has the filter in it: many rows may share a long text, in which it is looked for once. */
+  #finder() {
+    const known = new Map();
+    const has = text => text.toLowerCase().includes(this.#filter);
+    return text => {
+      if (text.length <= MOST_TITLE) {
+        return has(text);
+      }
+      if (!known.has(text)) {
+        known.set(text, has(text));
+      }
+      return known.get(text);
+    };
+  }
+
+  #filtered() {
+    const isFound = this.#finder();
+    return this.#sorted.filter(row => this.#columns.some(key => isFound(this.#cell(key, row))));
   }
 
   #arrange() {
-    this.#shown = this.#filter ? this.#sorted.filter(row => this.#textOf(row).includes(this.#filter)) : this.#sorted;
+    this.#shown = this.#filter ? this.#filtered() : this.#sorted;
     this.#table.setAttribute('aria-rowcount', String(this.#shown.length + 1));
     this.#counted.textContent = this.#filter ? `${count(this.#shown.length)} of ${some(this.#rows.length, 'row')}` : some(this.#rows.length, 'row');
     this.#window.start(this.#shown.length);

@@ -118,6 +118,21 @@ describe('chromium', process.env.CHROMIUM ? {} : { skip: 'left out without chrom
     });
   }
 
+  test('rows that share a long text are filtered in a moment', async () => {
+    const key = 't'.repeat(100_000);
+    const strings = Array.from({ length: 100_000 }, (_, index) => ({ key: `k${index}`, value: 'v' }));
+    const line = lineOf({ version: { rva: 4096, string_tables: [{ key, strings }] } });
+    await show('strings.dll', { line: lineOf(), all: line });
+    await watch();
+    await browser.ask('document.getElementById("tab-version").click()');
+    for (const [letters, rows] of [['TTTT', 100_000], ['k9999', 11], ['nowhere', 0]]) {
+      await browser.ask(`(() => { const search = document.querySelector("#panel input"); search.value = "${letters}"; search.dispatchEvent(new Event("input")); })()`);
+      assert.equal(await browser.ask('document.querySelector("#panel [role=status]").textContent'), `${rows.toLocaleString('en')} of 100,001 rows`);
+    }
+    const longest = await browser.ask('new Promise(told => setTimeout(() => told(Math.max(...long)), 100))');
+    assert.ok(longest < MOST_MILLISECONDS, `${longest} milliseconds`);
+  });
+
   test('that a text goes on is said before it', async () => {
     const manifest = `${'m'.repeat(200_000)}\n.. and 3 letters more`;
     await show('manifest.dll', { line: lineOf(), all: lineOf({ manifest }) });
