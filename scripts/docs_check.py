@@ -7,6 +7,7 @@
 - GUIDE.md and petool(1): the commands, options and arguments of the program that PETOOL_PROGRAM names, and README.md, which may
   leave out options; without that program this is left out
 - README.md and GUIDE.md: the test command of .ci/run
+- FORMAT.md: the fields of the load configuration, with their offsets and widths, as pe_records reads them
 - the versions of the program, the library, its bindings and its package: that of the file VERSION
 - the dates of the manual pages: that of the last version in Debian's changelog
 - PROVED.md and README.md: the ported crates of crates.txt, those of tests and of the benchmark apart
@@ -30,6 +31,7 @@ TOP = pathlib.Path(__file__).resolve().parents[1]
 PROVED, TESTS, MAP = "docs/PROVED.md", "docs/TESTS.md", "docs/MAP.md"
 GUIDE, README, MAN = "docs/GUIDE.md", "README.md", "man/petool.1"
 RUN = ".ci/run"
+FORMAT, LOAD_NAMES, LOAD_LAYOUT = "docs/FORMAT.md", "crates/pe_records/src/names.rt", "crates/pe_records/src/load_layout.rt"
 CHANGELOG, MANUALS = "packaging/debian/changelog", ("man/petool.1", "man/petool.h.3")
 #: Folders of what is made, which no page names.
 MADE = {".git", "out", "target", "__pycache__"}
@@ -345,6 +347,24 @@ def manual_faults(program, helped):
         yield f"VERSION: the program is {version}"
 
 
+def load_fields():
+    """The fields of the load configuration as pe_records has them: the name, both offsets, and the width."""
+    named = re.search(r"^static LOAD_FIELDS: .*?^\];$", read(LOAD_NAMES), re.M | re.S)[0]
+    names_of = re.findall(r'^    \(\d+, "([\w.]+)"\),$', named, re.M)
+    laid_out = re.findall(r"^    Field\((\d+), (\d+), Width::(\w+)\),$", read(LOAD_LAYOUT), re.M)
+    widths = {"Two": "2", "Four": "4", "Address": "4 or 8"}
+    return [[name, start, wide, widths[width]] for name, (start, wide, width) in zip(names_of, laid_out)]
+
+
+def load_faults():
+    """Whether FORMAT.md has these fields, in their order."""
+    told, found = rows(section(read(FORMAT), "### Fields of the load configuration"))[1:], load_fields()
+    yield from (f"{FORMAT}: the field {it[0]} is not told as {', '.join(it[1:])}" for it in found if it not in told)
+    yield from (f"{FORMAT}: there is no field {', '.join(it)}" for it in told if it not in found)
+    if sorted(told) == sorted(found) and told != found:
+        yield f"{FORMAT}: the fields of the load configuration are in another order"
+
+
 def version_faults():
     """Whether the version is that of the file VERSION everywhere."""
     version = read("VERSION").strip()
@@ -398,6 +418,7 @@ def comparisons(program):
     yield condition_faults()
     yield from (file_faults(), proof_faults(), list_faults(), command_faults(), version_faults(), date_faults())
     yield count_faults(read(MAP))
+    yield load_faults()
     yield from map(test_faults, (PROVED, TESTS))
     yield from map(trust_faults, (PROVED, README))
     if program:

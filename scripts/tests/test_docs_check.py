@@ -14,7 +14,7 @@ import unittest.mock
 
 TOP = pathlib.Path(__file__).resolve().parents[2]
 PROVED, TESTS, MAP = "docs/PROVED.md", "docs/TESTS.md", "docs/MAP.md"
-GUIDE, README, MAN = "docs/GUIDE.md", "README.md", "man/petool.1"
+GUIDE, README, MAN, FORMAT = "docs/GUIDE.md", "README.md", "man/petool.1", "docs/FORMAT.md"
 TABLES, SAMPLES, TEXTS = "crates/pe_tables/src/lib.rt", "crates/pe_vectors/src/images.rt", "crates/pe_layout/src/text.rt"
 
 #: The changes: the file, what is in it, what replaces it, and what is then printed.
@@ -56,6 +56,11 @@ NAMED = [
 COMMAND = [
     (README, "bindings/test --without mypy,llvm,mingw,libwine,chromium,firefox,webkit,module\n", "bindings/test\n", f"{README}: it does not name the test command of .ci/run"),
     (".ci/run", "rt ci && ", "rt all test && ", f"{GUIDE}: it does not name the test command of .ci/run, which is rt all test && "),
+]
+LOAD_FIELDS = [
+    (FORMAT, "| ProcessHeapFlags | 44 | 72 | 4 |", "| ProcessHeapFlags | 48 | 72 | 4 |", f"{FORMAT}: the field ProcessHeapFlags is not told as 44, 72, 4"),
+    (FORMAT, "| EditList | 56 | 80 | 4 or 8 |", "| EditLists | 56 | 80 | 4 or 8 |", f"{FORMAT}: there is no field EditLists, 56, 80, 4 or 8"),
+    ("crates/pe_records/src/load_layout.rt", "Field(8, 8, Width::Two)", "Field(8, 8, Width::Four)", f"{FORMAT}: the field MajorVersion is not told as 8, 8, 4"),
 ]
 VERSIONS = [
     ("VERSION", "2.0", "2.1", "man/petool.1: the version is 2.0, and that of VERSION 2.1"),
@@ -157,6 +162,9 @@ class TestDocsCheck(unittest.TestCase):
 
     def test_the_test_command_is_that_which_is_run(self):
         self.assert_named(COMMAND)
+
+    def test_fields_of_the_load_configuration_are_told(self):
+        self.assert_named(LOAD_FIELDS)
 
     def test_versions_are_that_of_the_file(self):
         self.assert_named(VERSIONS)
