@@ -235,7 +235,7 @@ def known(name, allowed):
 
 
 def import_hash(imports):
-    """The import hash, None without imports, or "" if there is an import by ordinal whose name is not known here."""
+    """The import hash, None without imports or of a text of more than 16 MB, or "" if there is an import by ordinal whose name is not known here."""
     texts, is_known = [], True
     for module, _, key in imports or ():
         module = known(module, b"!#$%&'()-@^_`{}~+,.;=[]\\/")
@@ -243,9 +243,10 @@ def import_hash(imports):
         is_known = is_known and not (names is None and isinstance(key, int))
         symbol = (names or {}).get(key, b"ord%d" % key).lower() if isinstance(key, int) else known(key, b"._?@$()<>")
         texts.append(re.sub(rb"\.(dll|ocx|sys)\Z", b"", module) + b"." + symbol)
-    if not texts:
+    text = b",".join(texts)
+    if not text or len(text) > 16_777_216:
         return None
-    return hashlib.md5(b",".join(texts)).hexdigest() if is_known else ""
+    return hashlib.md5(text).hexdigest() if is_known else ""
 
 
 def import_hash_rows(imports):

@@ -712,7 +712,8 @@ PETOOL_WARN_UNUSED uint32_t petool_trust_findings(const uint8_t *file, size_t le
                                                   petool_fault *fault);
 
 /* The import hash: the MD5 digest of what an image imports, told as text, which is 16 bytes and equal for programs that were built
- * alike. OK; ABSENT if it imports nothing; FAULT, with one of 1 to 15 and 24 to 32; or NO_MEMORY. */
+ * alike. OK; ABSENT if it imports nothing, or if that text has over 16 MB; FAULT, with one of 1 to 15 and 24 to 32; or
+ * NO_MEMORY. */
 PETOOL_WARN_UNUSED uint32_t petool_import_hash(const uint8_t *file, size_t len, petool_digest *hash, petool_fault *fault);
 
 /* ---- an image that is kept open between calls ---- */

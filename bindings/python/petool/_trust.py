@@ -210,7 +210,7 @@ class TrustOfFile(OfFile):
     def import_hash(self) -> Optional[str]:
         """The import hash in hexadecimal digits: the MD5 digest of what the image imports, told as text, as pefile computes it.
 
-        None if it imports nothing. FormatFault of 13 to 32 if sections or imports have a fault.
+        None if it imports nothing, or if that text has over 16 MB. FormatFault of 13 to 32 if sections or imports have a fault.
         """
         told = _records.Digest()
         if self._ask(library.petool_import_hash, ctypes.byref(told)) == _library.ABSENT:

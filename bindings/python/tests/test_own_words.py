@@ -10,7 +10,7 @@ import unittest
 import petool
 
 from . import data
-from .files import changed, importing, numbers, put
+from .files import changed, importing, numbers, put, with_data
 from .test_sum import sum_of
 from .test_trust import (
     END,
@@ -212,6 +212,21 @@ class OwnWords(unittest.TestCase):
         # the import table passes the image, which is fault 24
         with trust(changed("vd.dll", (0xD0, numbers(0x7FFFFFF0)), size=None)) as it, self.assertRaises(petool.FormatFault):
             it.import_hash
+
+    def test_import_hash_of_as_many_bytes_as_count(self):
+        """Of 16,777,216 bytes of names there is a hash, and of one more there is none: 32,577 imports of one long name, and another."""
+        for last, is_told in ((59, True), (60, False)):
+            long, short = 0x1000 + 40 + 2, 0x1000 + 40 + 2 + 515
+            lookups = 0x1000 + 40 + 2 + 515 + 80
+            entries = numbers(*[long] * 32577, short, 0)
+            names = b"k\0" + b"\0\0" + b"E" * 512 + b"\0" + (b"\0\0" + b"F" * last + b"\0").ljust(80, b"\0")
+            section = numbers(lookups, 0, 0, 0x1000 + 40, 0x40000) + bytes(20) + names + entries
+            file = with_data([(0x90, numbers(0x80000)), (0xC0, numbers(0x1000, 20))], section)
+            text = b",".join([b"k." + b"e" * 512] * 32577 + [b"k." + b"f" * last])
+            self.assertEqual(len(text), 16_777_157 + last)
+            with self.subTest(last), trust(file) as it, petool.Image(file) as same:
+                wanted = hashlib.md5(text).hexdigest() if is_told else None
+                self.assertEqual((it.import_hash, same.import_hash), (wanted, wanted))
 
     def test_findings(self):
         for number, file, place in FOUND:

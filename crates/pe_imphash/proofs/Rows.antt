@@ -1,13 +1,13 @@
 -- Imports and their texts, as pefile writes them.
 use Rattle.std.proofs.Common.{◌≡◌, refl}
-use Rattle.std.specs.Prelude.{[], ◌∷◌, codes, Some}
+use Rattle.std.specs.Prelude.{[], ◌∷◌, codes, Some, None}
 use Rattle.pe_tables.specs.Key.{Ordinal, Name}
 use Rattle.pe_tables.specs.Imports.{Import}
 use Rattle.std.specs.Fmt.{digits}
 use Rattle.md5.specs.Md5.{block_words, rounds, compress, hash_after, digest_bytes, md5}
 use Rattle.pe_imphash.specs.Oleaut32.{oleaut32_names_1, oleaut32_names_7}
 use Rattle.pe_imphash.specs.Winsock.{winsock_names_2}
-use Rattle.pe_imphash.specs.ImportText.{import_text, import_hash_of}
+use Rattle.pe_imphash.specs.ImportText.{import_text, import_hash_within, import_hash_of}
 
 abbrev exit_process : Import
 exit_process = record { module_name = codes "KERNEL32.dll"; key = Name (codes "ExitProcess"); slot = 0x2000 }
@@ -47,3 +47,15 @@ row_invalid = refl
 row_hash : import_hash_of (exit_process ∷ winsock ∷ []) ≡ Some (0x60 ∷ 0x81 ∷ 0x5f ∷ 0x7d ∷ 0x8c ∷ 0xbc ∷ 0x45 ∷ 0xb7 ∷ 0x6f ∷ 0xd9 ∷ 0xda ∷ 0x88 ∷ 0x31 ∷ 0x0 ∷ 0x62 ∷ 0x24 ∷ [])
 unfolding winsock_names_2 block_words rounds compress hash_after digest_bytes md5
 row_hash = refl
+
+-- that text has 38 bytes
+row_within : import_hash_within 38 (exit_process ∷ winsock ∷ []) ≡ import_hash_of (exit_process ∷ winsock ∷ [])
+unfolding winsock_names_2
+row_within = refl
+
+row_past : import_hash_within 37 (exit_process ∷ winsock ∷ []) ≡ None
+unfolding winsock_names_2
+row_past = refl
+
+row_none : import_hash_within 37 [] ≡ None
+row_none = refl

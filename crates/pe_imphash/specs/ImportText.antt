@@ -1,5 +1,5 @@
 -- The text that an import hash is the digest of: imports in the order of their table, each as module.symbol, with commas between them.
-use Rattle.std.specs.Prelude.{ℕ, ◌-◌, ◌||◌, Bool, List, [], ◌∷◌, ◌++◌, length, take, drop, codes, decimal, Option, None, Some, option_map, unwrap_or, if◌then◌else◌}
+use Rattle.std.specs.Prelude.{ℕ, ◌-◌, ◌||◌, nat_le, Bool, List, [], ◌∷◌, ◌++◌, length, take, drop, codes, decimal, Option, None, Some, option_map, unwrap_or, if◌then◌else◌}
 use Rattle.std.specs.List.{list_all, flat_map}
 use Rattle.std.specs.Str.{bytes_eq, str_to_ascii_lowercase}
 use Rattle.md5.specs.Md5.{md5}
@@ -51,6 +51,15 @@ import_text i = stem (module_text i.module_name) ++ codes "." ++ symbol_text (mo
 abbrev pub further_text : Import → List ℕ
 further_text i = codes "," ++ import_text i
 
+-- the text of an image's imports
+abbrev pub hashed_text : List Import → List ℕ
+hashed_text [] = []
+hashed_text (i ∷ is) = import_text i ++ flat_map further_text is
+
+-- the digest of a text, if there are imports and it has at most so many bytes
+abbrev pub import_hash_within : ℕ → List Import → Option (List ℕ)
+import_hash_within most [] = None
+import_hash_within most (i ∷ is) = if nat_le (length (hashed_text (i ∷ is))) most then Some (md5 (hashed_text (i ∷ is))) else None
+
 abbrev pub import_hash_of : List Import → Option (List ℕ)
-import_hash_of [] = None
-import_hash_of (i ∷ is) = Some (md5 (import_text i ++ flat_map further_text is))
+import_hash_of imports = import_hash_within 16777216 imports

@@ -57,7 +57,8 @@ fn beginning(name: &[u8]) -> &[u8]
 
 /// What is taken in of a name, in lower case.
 fn lowered(name: &[u8]) -> Name
-    ensures { result.items ≡ lower name.now }
+    ensures value { result.items ≡ lower name.now }
+    ensures short { length result.items ≤ 512 }
 {
     let mut lower = ArrayVec::new();
     lower.try_extend_from_slice(beginning(name)).unwrap();
@@ -67,9 +68,21 @@ fn lowered(name: &[u8]) -> Name
 
 /// The name of a module as it is taken in, with its extension.
 pub(crate) fn known_module(name: &[u8]) -> Name
-    ensures { result.items ≡ module_text name.now }
+    ensures value { result.items ≡ module_text name.now }
+    ensures short { length result.items ≤ 512 }
 {
     if is_file_name(beginning(name)) {
+        return lowered(name);
+    }
+    lowered(b"*invalid*")
+}
+
+/// The name of a symbol as it is taken in.
+fn known_symbol(name: &[u8]) -> Name
+    ensures value { result.items ≡ name_text name.now }
+    ensures short { length result.items ≤ 512 }
+{
+    if is_symbol_name(beginning(name)) {
         return lowered(name);
     }
     lowered(b"*invalid*")
@@ -87,7 +100,8 @@ fn has_extension(name: &[u8]) -> bool
 
 /// A name in lower case without the extension of a library, a control or a driver.
 pub(crate) fn without_extension(name: &[u8]) -> &[u8]
-    ensures { result.now ≡ stem name.now }
+    ensures value { result.now ≡ stem name.now }
+    ensures short { length result.now ≤ length name.now }
 {
     if has_extension(name) {
         return &name[..name.len().saturating_sub(4)];
@@ -95,32 +109,40 @@ pub(crate) fn without_extension(name: &[u8]) -> &[u8]
     name
 }
 
-/// Takes the name of a symbol in.
-fn update_name(hasher: &mut Md5, name: &[u8])
-    ensures { (text : List ℕ) → Holds hasher.old text → Holds hasher.new (text ++ name_text name.now) }
+/// Takes the name of a symbol in, and returns how many bytes that is.
+fn update_name(hasher: &mut Md5, name: &[u8]) -> usize
+    ensures text { (text : List ℕ) → Holds hasher.old text → Holds hasher.new (text ++ name_text name.now) }
+    ensures count { result ≡ length (name_text name.now) }
+    ensures few { result ≤ 512 }
 {
-    if is_symbol_name(beginning(name)) {
-        hasher.update(lowered(name).as_slice());
-    } else {
-        hasher.update(b"*invalid*");
-    }
+    let known = known_symbol(name);
+    hasher.update(known.as_slice());
+    known.len()
 }
 
-/// Takes an ordinal of a module in: by its name if it has one.
-fn update_ordinal(hasher: &mut Md5, module: &[u8], ordinal: u16)
-    ensures { (text : List ℕ) → Holds hasher.old text → Holds hasher.new (text ++ ordinal_text «module».now ordinal) }
+/// Takes an ordinal of a module in, by its name if it has one, and returns how many bytes that is.
+fn update_ordinal(hasher: &mut Md5, module: &[u8], ordinal: u16) -> usize
+    ensures text { (text : List ℕ) → Holds hasher.old text → Holds hasher.new (text ++ ordinal_text «module».now ordinal) }
+    ensures count { result ≡ length (ordinal_text «module».now ordinal) }
+    ensures few { result ≤ 512 }
 {
     if let Some(name) = ordinal_name(module, ordinal) {
-        hasher.update(lowered(name.as_bytes()).as_slice());
-        return;
+        let known = lowered(name.as_bytes());
+        hasher.update(known.as_slice());
+        return known.len();
     }
+    let mut buffer = Buffer::new();
+    let digits = buffer.format(ordinal).as_bytes();
     hasher.update(b"ord");
-    hasher.update(Buffer::new().format(ordinal).as_bytes());
+    hasher.update(digits);
+    3 + digits.len()
 }
 
-/// Takes the symbol of an import from a module in.
-pub(crate) fn update_symbol(hasher: &mut Md5, module: &[u8], key: &Key)
-    ensures { (text : List ℕ) → Holds hasher.old text → Holds hasher.new (text ++ symbol_text «module».now (key_view key.now)) }
+/// Takes the symbol of an import from a module in, and returns how many bytes that is.
+pub(crate) fn update_symbol(hasher: &mut Md5, module: &[u8], key: &Key) -> usize
+    ensures text { (text : List ℕ) → Holds hasher.old text → Holds hasher.new (text ++ symbol_text «module».now (key_view key.now)) }
+    ensures count { result ≡ length (symbol_text «module».now (key_view key.now)) }
+    ensures few { result ≤ 512 }
 {
     match *key {
         Key::Name(name) => update_name(hasher, name),

@@ -222,7 +222,7 @@ impl<'a> Trust<'a> {
     }
 
     /// The import hash: the MD5 digest of what the image imports, told as text, which programs that were built alike have in common.
-    /// `None` if it imports nothing. Sections and imports may have a fault of 13 to 32.
+    /// `None` if it imports nothing, or if that text has over 16 MB. Sections and imports may have a fault of 13 to 32.
     pub fn import_hash(&self) -> Result<Option<[u8; 16]>, Error> {
         let (mut raw, mut fault) = (sys::Digest::NONE, sys::Fault::default());
         // SAFETY: the file is a complete slice, which nobody writes to
