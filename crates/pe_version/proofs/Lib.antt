@@ -1,5 +1,6 @@
 pub mod Characters
 pub mod Reaching
+pub mod ReachingTables
 pub mod Rows
 pub mod Stepping
 pub mod TestsFound

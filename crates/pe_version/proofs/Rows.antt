@@ -7,6 +7,7 @@ use Rattle.pe_version.specs.Findings.{version_tests}
 use Rattle.pe_version.specs.FixedInfo.{fixed_info_of, version_of}
 use Rattle.pe_version.specs.Parts.{utf16}
 use Rattle.pe_version.specs.Strings.{Text, strings_of}
+use Rattle.pe_version.specs.Tables.{Entry, tables_of}
 use Rattle.pe_version.specs.Units.{characters}
 
 -- its data
@@ -83,3 +84,23 @@ pair = refl
 lone : characters (0x3d ∷ 0xd8 ∷ 0x41 ∷ 0x00 ∷ []) ≡ 0xfffd ∷ 0x41 ∷ []
 unfolding utf16_chars
 lone = refl
+
+-- the same strings, in their table
+entry : List ℕ → List ℕ → Entry
+entry key value = record { key = utf16 key; value = utf16 value }
+
+tables : tables_of launcher ≡
+    record {
+      key = utf16 (codes "080904b0");
+      strings =
+          entry (codes "CompanyName") (codes "Simple Launcher User") ∷
+          entry (codes "FileDescription") (codes "Simple Launcher Executable") ∷
+          entry (codes "FileVersion") (codes "1.1.0.14") ∷
+          entry (codes "InternalName") (codes "t64.exe") ∷
+          entry (codes "LegalCopyright") (codes "Copyright (C) Simple Launcher User") ∷
+          entry (codes "OriginalFilename") (codes "t64.exe") ∷
+          entry (codes "ProductName") (codes "Simple Launcher") ∷
+          entry (codes "ProductVersion") (codes "1.1.0.14") ∷ [];
+    } ∷ []
+unfolding entry
+tables = refl

@@ -11,5 +11,7 @@ pub mod Root
 pub mod Steps
 pub mod Strings
 pub mod StringsLeft
+pub mod Tables
+pub mod TablesLeft
 pub mod Units
 pub mod UnitsLeft

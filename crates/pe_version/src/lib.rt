@@ -23,9 +23,11 @@ mod blocks;
 mod findings;
 mod fixed;
 mod strings;
+mod tables;
 mod utf16;
 
 pub use findings::version_findings;
 pub use fixed::{FixedInfo, fixed_info};
 pub use strings::{VersionString, VersionStrings, version_strings};
+pub use tables::{TableString, TableStrings, VersionTable, VersionTables, version_tables};
 pub use utf16::{DecodeUtf16, decode_utf16};

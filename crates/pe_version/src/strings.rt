@@ -15,7 +15,7 @@ use pe_view::View;
 /// A string of version information. Each part is UTF-16, of two bytes a unit.
 #[derive(Clone, Copy, Debug)]
 pub struct VersionString<'a> {
-    /// The key of the table that has it: eight hexadecimal digits, of a language and a code page.
+    /// The key of the table that has it: eight hexadecimal digits, of a language and a code page, if the file keeps to the format.
     pub table: &'a [u8],
     /// What it is called, like `FileVersion`.
     pub key: &'a [u8],
