@@ -1,13 +1,24 @@
 """Each word of a list of which a page shows one, by the number that the standard gives it."""
 
 import struct
+import sys
 import unittest
 
+import petool
+
+from . import TOP, script
 from .files import changed, numbers
 from .finding_pages import PROGRAM, FindingPages
 from .test_created_archives import coff
+from .test_findings import entry, image
 from .test_unwind import amd64, information
+from .trees import image as with_resources
+from .trees import tree
 
+sys.path.insert(0, str(TOP / "scripts"))
+#: The tags of languages, from "Windows Language Code Identifier (LCID) Reference".
+TAGS = script("pages_resources").TAGS
+del sys.path[0]
 EXTERNAL, STATIC, WEAK = 2, 3, 105
 #: Characteristics of the one section of v1.dll, and those of the image.
 SECTION_FLAGS, IMAGE_FLAGS = 0x15C, 0x56
@@ -56,6 +67,22 @@ class PageWords(FindingPages, unittest.TestCase):
                 row = next(rows for heading, rows in self.parts(file, "--unwind").items() if heading.startswith("Functions"))[2]
                 names = [word for word in row.split() if word in UNWIND_FLAGS.values()]
                 self.assertEqual(names, [word for bit, word in UNWIND_FLAGS.items() if flags & bit])
+
+    def test_the_name_of_a_pdb_file_is_what_follows_its_folders(self):
+        for path, name in [(b"D:\\a\\b.pdb", "b.pdb"), (b"/a/b.pdb", "b.pdb"), (b"a\\b/c.pdb", "c.pdb"), (b"a/b\\c.pdb", "c.pdb"), (b"c.pdb", "c.pdb")]:
+            with self.subTest(path):
+                data = b"RSDS" + bytes(20) + path + b"\0"
+                file = image(6, 28, entry(2, len(data), 0x101C, 0x21C) + data)
+                (row,) = self.parts(file)["Tables (1)"]
+                self.assertTrue(row.endswith(f"1 entry, PDB {name}"), row)
+                with petool.Image(file) as it:
+                    self.assertEqual(it.pdb.name, name.encode())
+
+    def test_languages(self):
+        self.assertEqual((len(TAGS), TAGS[0x040A], TAGS[0x0C0A]), (229, "es-ES_tradnl", "es-ES"))
+        file = with_resources(tree([(10, [(1, [(language, (b"", 0)) for language in sorted(TAGS)])])]))
+        rows = self.parts(file, "--resources")[f"Resources ({len(TAGS)})"][1:]
+        self.assertEqual([row.split("  ")[3] for row in rows], [TAGS[language] for language in sorted(TAGS)])
 
     def test_an_image_that_must_stand_where_it_prefers(self):
         file = changed("v1.dll")
