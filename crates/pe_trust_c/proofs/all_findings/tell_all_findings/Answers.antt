@@ -35,11 +35,11 @@ put_part-requires c =
     let early = c.put_part-early.ensures.count in
     let middle = c.put_all-middle.ensures.count in
     let own = present_few c.findings_in.result in
-    let five : length c.findings_in.result ≡ 5 = search rules in
+    let six : length c.findings_in.result ≡ 6 = search rules in
     let told = c.put_findings-own.ensures.count in
     let short : length c.args.found.now < 2 ^ 62 = search rules in
     let small : length c.args.between.now < 2 ^ 62 = search rules in
-    omega (arith, few, early, middle, own, five, told, short, small)
+    omega (arith, few, early, middle, own, six, told, short, small)
 
 pub returns : goal.returns
 returns c =
