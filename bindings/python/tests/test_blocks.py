@@ -88,7 +88,8 @@ C_PIECES: Dict[Tuple[pathlib.Path, str], List[Tuple[bytes, str]]] = {
     ],
     (C_PAGE, "## An image that is kept open"): [(crafted.exports([0], b"CreateFileW\0", [0x10]), "kind 0 RVA 0x10\n"), (data("v1.dll"), "")],
     (C_PAGE, "## A space over its files"): [(data("v1.dll"), "")],
-    (LIBRARIES, "## From C"): [(data("v1.dll"), ""), (data("v1.dll")[:520], "fault 13 at 0x138\n")],
+    # v2.dll has one base relocation, of the field at the RVA 0x1008
+    (LIBRARIES, "## From C"): [(data("v2.dll"), "relocated fields: 1\n"), (data("v1.dll")[:520], "fault 13 at 0x138\n")],
 }
 #: The headings of the pages below which there is no C: below some no block has to be completed.
 OTHERS = {
