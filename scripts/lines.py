@@ -48,6 +48,8 @@ ADDRESSES = {name for kind, name in (field.split(":") for field in LOAD_FIELDS) 
 OPTIONS = ("--all", "--functions", "--no-digest")
 #: The types of certificates, with their names in "PE Format".
 CERTIFICATES = {1: "X509", 2: "PKCS_SIGNED_DATA", 3: "RESERVED_1", 4: "TS_STACK_SIGNED"}
+#: The characters that no line has as they are, though JSON may.
+HIDDEN = re.compile("[\x7f-\x9f\u2028-\u202e\u2066-\u2069\ufeff]")
 FLAGS = {"characteristics": IMAGE_FLAGS, "dll_characteristics": DLL_FLAGS}
 NAMES = {"machine": MACHINES, "subsystem": SUBSYSTEMS, "type": TYPES}
 
@@ -251,9 +253,12 @@ def version_member(resources):
         row["file_version"], row["product_version"] = ([numbers[k + i] for i in (1, 0, 3, 2)] for k in (0, 4))
         row |= zip(("flags_mask", "flags", "system", "type", "subtype"), resources.fixed[4:])
     if data is not None:
-        row["strings"] = [
-            {"table": utf8(table).decode(), "key": utf8(key).decode(), "value": value_text(value).decode()}
-            for table, key, value in resources.strings
+        row["string_tables"] = [
+            {
+                "key": utf8(table).decode(),
+                "strings": [{"key": utf8(key).decode(), "value": value_text(value).decode()} for key, value in strings],
+            }
+            for table, strings in resources.tables
         ]
     return {"version": row}
 
@@ -340,7 +345,8 @@ def beyond_members(file, headers, image, is_accepted, options):
     trust, tables = Trust(file, headers), Tables(image, file) if is_accepted else None
     row = record_members(tables, "--functions" in options) | resource_members(tables.resources) if tables else {}
     row |= trust_members(trust, "--no-digest" not in options)
-    row |= {"imphash": import_hash(image.imports)} if image and image.imports else {}
+    found = import_hash(image.imports) if image else None
+    row |= {} if found is None else {"imphash": found}
     return row | findings_member(tables, trust, ImageSymbols(file, headers).findings if tables else [])
 
 
@@ -360,7 +366,7 @@ def line_of(name, file, options):
         row |= beyond_members(file, headers, image, fault is None, options)
     begin = {"schema": 1, **named("file", os.fsencode(name)), "accepted": fault is None}
     begin |= {"fault": fault_member(fault)} if fault else {}
-    return json.dumps(begin | row, ensure_ascii=False, separators=(",", ":"))
+    return HIDDEN.sub(lambda found: f"\\u{ord(found[0]):04x}", json.dumps(begin | row, ensure_ascii=False, separators=(",", ":")))
 
 
 def same(line, other):

@@ -66,7 +66,7 @@ class Resources:
         self.manifest = self.only(24, lambda names: [[it for it in names if it[0] == id] for id in (1, 2)] and
                                   ([it for it in names if it[0] == 1] or [it for it in names if it[0] == 2] or names)[:1])
         leaf, data = self.version or (None, None)
-        self.strings, self.fixed = [], None
+        self.tables, self.fixed = [], None
         if data is not None:
             self.read_version(leaf.rva, data)
 
@@ -152,6 +152,11 @@ class Resources:
 
     # ---- version information
 
+    @property
+    def strings(self):
+        """The strings of all tables, each with the key of its table."""
+        return [(table, key, value) for table, strings in self.tables for key, value in strings]
+
     def read_version(self, rva, data):
         """Reads the fixed part, and the strings of the tables of each StringFileInfo."""
         has_key = data[6:38] == "VS_VERSION_INFO\0".encode("utf-16-le")
@@ -165,7 +170,7 @@ class Resources:
             self.findings.append((212, rva))
         for key, _, children, end in self.blocks(rva, data, up(40 + uint(data, 2, 2)), min(uint(data, 0, 2), len(data))):
             for table, _, strings, table_end in self.blocks(rva, data, children, end) if key == "StringFileInfo".encode("utf-16-le") else []:
-                self.strings += [(table, name, value) for name, value, _, _ in self.blocks(rva, data, strings, table_end)]
+                self.tables.append((table, [(name, value) for name, value, _, _ in self.blocks(rva, data, strings, table_end)]))
 
     def blocks(self, rva, data, at, end):
         """The blocks from a place on: the key, the value, where the children begin, and the end of each."""

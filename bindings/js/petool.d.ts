@@ -137,7 +137,7 @@ export interface Version {
   rva: number;
   file_version?: number[];
   product_version?: number[];
-  strings?: { table: string; key: string; value: string }[];
+  string_tables?: { key: string; strings: { key: string; value: string }[] }[];
   [field: string]: unknown;
 }
 

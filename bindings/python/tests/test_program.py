@@ -552,12 +552,12 @@ KINDS = [
 #: The bytes from 1 to 127, as a path; the slash among them ends the name of a folder.
 EACH_BYTE = bytes(range(1, 128))
 
-#: The line of an empty file of that name, with only those characters of the name escaped that must be.
+#: The line of an empty file of that name, with those characters of the name escaped that must be, and delete.
 NAMED_LINE = (
     r'{"schema":1,"file":"\u0001\u0002\u0003\u0004\u0005\u0006\u0007\b\t\n\u000b\f\r\u000e\u000f\u0010\u0011\u0012\u0013\u0014\u0015'
     r"\u0016\u0017\u0018\u0019\u001a\u001b\u001c\u001d\u001e\u001f !\"#$%&'()*+,-./0123456789:;<=>?@ABCDEFGHIJKLMNOPQRSTUVWXYZ[\\]^_"
-    "`abcdefghijklmnopqrstuvwxyz{|}~\x7f"
-    r'","accepted":false,"fault":{"number":2,"image":0,"place":{"file":0},"subject":"end of the file",'
+    "`abcdefghijklmnopqrstuvwxyz{|}~"
+    r'\u007f","accepted":false,"fault":{"number":2,"image":0,"place":{"file":0},"subject":"end of the file",'
     r'"rule":"the file has fewer than the 64 bytes of an MS-DOS header","values":{"file_size":0}}}'
     "\n"
 )

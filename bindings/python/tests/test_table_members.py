@@ -4,6 +4,7 @@ written out; and the findings."""
 import json
 import os
 import pathlib
+import re
 import struct
 import tempfile
 import unittest
@@ -11,9 +12,15 @@ import unittest
 from .cases import run
 from .files import numbers, put
 from . import test_trust as trust
+from . import trees
 from .test_findings import AMD64, ARM64, BASE, CALLBACKS, FOUND, NB10, RSDS, SOUND, TLS, clr, debug, entry, image, load
 
 PROGRAM = os.environ.get("PETOOL_PROGRAM")
+
+#: Each character up to U+FFFF, and some above.
+EACH_CHARACTER = "".join(map(chr, [*range(0xD800), *range(0xE000, 0x10000), 0x10000, 0x12028, 0x1F600, 0x10FFFF]))
+#: The characters that no line has, as RFC 8259 lets none of the first, and a terminal obeys the others.
+UNSEEN = "[\0-\x1f\x7f-\x9f\u2028-\u202e\u2066-\u2069\ufeff]"
 
 #: The members of what a file says of itself, and the findings.
 OF_FILE = ("check_sum_computed", "authenticode_sha256_hex", "certificates", "overlay", "rich", "findings")
@@ -96,6 +103,10 @@ class TableMembers(unittest.TestCase):
         folder = tempfile.TemporaryDirectory()
         self.addCleanup(folder.cleanup)
         self.folder = pathlib.Path(folder.name)
+
+    def put(self, name, file):
+        (self.folder / name).write_bytes(file)
+        return name
 
     def printed(self, file, *options, status=0):
         """The line of a file."""
@@ -220,6 +231,44 @@ class TableMembers(unittest.TestCase):
     def test_a_digest_of_an_algorithm_that_is_not_computed(self):
         (row,) = self.told(trust.signed(trust.SHA224))["certificates"]
         self.assertEqual(list(row), ["offset", "length", "revision", "type", "type_name", "digest_hex", "signers"])
+
+    def test_strings_show_each_character(self):
+        """In a text in UTF-8, whole, in pieces of each length, and beside what needs no escape; in UTF-16; and in the name of the file."""
+        pieces = ["abc\x7f" * 5, "\u202e", "\u2029\u2028", "x" * 15 + "\x80", "x" * 16 + "\ufeff", "\u4e2d\u6587" * 9 + "\u2066\"\\", "\u2027\u202f\u2065\u206a\ufefe\xa0~"]
+        for text in [EACH_CHARACTER, *pieces]:
+            strings = trees.version(*(trees.string("k" + it, it) for it in text.replace("\0", "")) if len(text) < 100 else ())
+            section = trees.tree([(16, trees.leaf(strings)), (24, trees.leaf(text.encode()))])
+            (self.folder / "a\u202e\x9b").write_bytes(trees.image(section, image_size=(len(section) + 0x1FFF) & -0x1000))
+            done = run([PROGRAM, "json", "--all", "a\u202e\x9b"], cwd=self.folder)
+            with self.subTest(text[:8]):
+                line = done.stdout.decode().removesuffix("\n")
+                self.assertEqual(re.findall(UNSEEN, line), [])
+                told = json.loads(line)
+                self.assertEqual((told["file"], told["manifest"], told["version"]["string_tables"]), ("a\u202e\x9b", text, [
+                    {"key": "040904b0", "strings": [{"key": "k" + it, "value": it} for it in (text.replace("\0", "") if len(text) < 100 else "")]},
+                ]))
+                shown = json.dumps(text, ensure_ascii=False)
+                self.assertIn('"manifest":' + re.sub(UNSEEN, lambda it: f"\\u{ord(it[0]):04x}", shown), line)
+
+    def test_string_tables(self):
+        """Two tables in one block, one of them empty and with a key that is no number, and one table in another block."""
+        info = [trees.block("StringFileInfo", children=[trees.block("x\ud800y", children=[]), trees.block("040904b0", children=[trees.string("a", "1"), trees.string("", "")])]),
+                trees.block("VarFileInfo"), trees.block("StringFileInfo", children=[trees.block("", children=[trees.block("b", b"\0\xdc\0\0")])])]
+        file = trees.image(trees.tree([(16, trees.leaf(trees.block("VS_VERSION_INFO", trees.FIXED, info, kind=0)))]))
+        self.assertEqual(self.printed(file, "--all")["version"]["string_tables"], [
+            {"key": "x\ufffdy", "strings": []},
+            {"key": "040904b0", "strings": [{"key": "a", "value": "1"}, {"key": "", "value": ""}]},
+            {"key": "", "strings": [{"key": "b", "value": "\ufffd"}]},
+        ])
+
+    def test_a_long_key_of_a_string_table_is_told_once(self):
+        """A table whose key has 30,000 bytes, with 4,000 strings that have none."""
+        data = trees.version(*[trees.block("")] * 4000, table="k" * 15000)
+        done = run([PROGRAM, "json", "--all", self.put("a", trees.image(trees.tree([(16, trees.leaf(data))]), image_size=0x20000))], cwd=self.folder)
+        self.assertEqual(done.returncode, 0)
+        self.assertLess(len(done.stdout), 200_000)
+        (table,) = json.loads(done.stdout)["version"]["string_tables"]
+        self.assertEqual((table["key"], len(table["strings"])), ("k" * 15000, 4000))
 
     def test_certificates_that_are_no_signature(self):
         table = b"".join(trust.entry(bytes(kind), kind, 0x100) for kind in (1, 3, 4, 9)) + trust.entry(b"")

@@ -27,7 +27,7 @@ def image(section: bytes, size: int = 16, image_size: int = 0x3000) -> bytes:
 
 
 def wide(text: str) -> bytes:
-    return text.encode("utf-16-le")
+    return text.encode("utf-16-le", "surrogatepass")
 
 
 def directory(*entries: Tuple[int, int], texts: int = 0) -> bytes:

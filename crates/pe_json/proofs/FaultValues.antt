@@ -3,7 +3,6 @@ use Rattle.std.proofs.Common.{◌≡◌, ℕ, suc, Bool, true, false, List, [], 
 use Rattle.std.specs.Prelude.{⊤, ◌==◌, ◌&&◌, if◌then◌else◌}
 use Rattle.std.specs.List.{list_all}
 use Rattle.std.proofs.lemmas.Bool.{and_parts}
-use Rattle.json.proofs.Printed.Utf8.{are_ascii}
 use Rattle.pe_view.specs.declared.fault.Fault.{Fault}
 use Rattle.pe_view.specs.declared.fault.Place.{Place}
 use Rattle.pe_view.specs.declared.fault.Place.TheVariants as at
@@ -17,7 +16,8 @@ use Rattle.pe_detail.specs.declared.words.Amount.TheVariants as amount
 use Rattle.pe_text.specs.FaultWords.{Words, words_in, rules}
 use Rattle.pe_json.specs.Refused.{place_object, place_members, words_members, amount_items, value_items, values_object, values_members, fault_object, fault_members}
 use Rattle.pe_json.proofs.Printed.{IsValue, AreMembers, ascii, members_value}
-use Rattle.pe_json.proofs.JsonMembers.{is_member, number_member, string_member, address_value, members_then}
+use Rattle.pe_json.proofs.Shown.{are_ascii}
+use Rattle.pe_json.proofs.JsonMembers.{is_member, number_member, word_member, address_value, members_then}
 
 -- ---- where it is
 place_value : (limit : ℕ) (place : Place) → IsValue (suc limit) (place_object place)
@@ -51,7 +51,7 @@ rules_ascii = refl
 are_words : (limit : ℕ) (words : Option Words) → AreUtf8Words words → AreMembers limit (words_members words)
 unfolding words_members
 are_words limit None h = tt
-are_words limit (Some words) h = (string_member _ _ words.0 refl (ascii words.0 h.0), (string_member _ _ words.1 refl (ascii words.1 h.1), tt))
+are_words limit (Some words) h = (word_member _ _ words.0 refl h.0, (word_member _ _ words.1 refl h.1, tt))
 
 -- the numbers that its rule compares
 detail_ascii : (d : Detail) → list_all (λ (part : detail.Words). are_ascii part.1) (detail_words d) ≡ true

@@ -1,9 +1,8 @@
 -- What a line says of an image is JSON.
 use Rattle.std.proofs.Common.{◌≡◌, ℕ, suc, Bool, true, false, List, [], ◌∷◌, codes, refl, Option, None, Some, option_map}
-use Rattle.std.specs.Prelude.{◌==◌, cond, bit_and, ◌^◌, if◌then◌else◌}
+use Rattle.std.specs.Prelude.{⊤, ◌==◌, cond, bit_and, ◌^◌, if◌then◌else◌}
 use Rattle.std.specs.List.{find, list_all, range_with_len}
 use Rattle.std.proofs.lemmas.Bool.{and_parts}
-use Rattle.json.proofs.Printed.Utf8.{are_ascii}
 use Rattle.pe_head.specs.Names.{Names, name_in, machine_names, subsystem_names, directory_names, characteristic_names, dll_characteristic_names, section_flag_names, flag_names}
 use Rattle.pe_head.specs.declared.names.FlagKind.{FlagKind}
 use Rattle.pe_head.specs.declared.names.FlagKind.TheVariants as flags
@@ -28,7 +27,8 @@ use Rattle.pe_json.specs.Sections.{is_same, without_zeros, short_unless, short_n
 use Rattle.pe_json.specs.TableRows.{key_member, import_row, kind_member, fixup_row}
 use Rattle.pe_json.specs.ExportRows.{name_if, target_members, export_row, name_at, row_if, own_rows, ordinal_rows, export_rows}
 use Rattle.pe_json.specs.ImageLine.{format_name, head_members, exports_members, imports_members, fixups_members}
-use Rattle.pe_json.proofs.Printed.{IsValue, IsMember, AreValues, AreMembers, ascii, is_string, items_value, members_value}
+use Rattle.pe_json.proofs.Printed.{IsValue, IsMember, AreValues, AreMembers, ascii, is_word, items_value, members_value}
+use Rattle.pe_json.proofs.Shown.{are_ascii}
 use Rattle.pe_json.proofs.JsonMembers.{IsAsciiText, IfUtf8, is_member, number_member, word_member, name_member, wide_member, members_then, text_members, row_values, numbered_values, flat_values}
 
 -- ---- names in tables
@@ -36,13 +36,25 @@ use Rattle.pe_json.proofs.JsonMembers.{IsAsciiText, IfUtf8, is_member, number_me
 abbrev pub are_ascii_names : Names → Bool
 are_ascii_names = list_all (λ row. are_ascii row.1)
 
-pub named : (names : Names) (value : ℕ) → are_ascii_names names ≡ true → IfUtf8 (name_in names value)
-named [] value h = tt
-named (row ∷ rows) value h = by (row.0 == value) (named rows value (and_parts _ _ h).1)
+-- a text is ASCII, if there is one
+abbrev IfAscii : Option (List ℕ) → Type 0
+IfAscii None = ⊤
+IfAscii (Some t) = IsAsciiText t
+
+named_ascii : (names : Names) (value : ℕ) → are_ascii_names names ≡ true → IfAscii (name_in names value)
+named_ascii [] value h = tt
+named_ascii (row ∷ rows) value h = by (row.0 == value) (named_ascii rows value (and_parts _ _ h).1)
   where
-    by : (b : Bool) → IfUtf8 (name_in rows value) → IfUtf8 (option_map (λ (row : ℕ × List ℕ). row.1) (cond b (Some row) (find (λ (row : ℕ × List ℕ). row.0 == value) rows)))
-    by true others = ascii row.1 (and_parts _ _ h).0
+    by : (b : Bool) → IfAscii (name_in rows value) → IfAscii (option_map (λ (row : ℕ × List ℕ). row.1) (cond b (Some row) (find (λ (row : ℕ × List ℕ). row.0 == value) rows)))
+    by true others = (and_parts _ _ h).0
     by false others = others
+
+ascii_if : (t : Option (List ℕ)) → IfAscii t → IfUtf8 t
+ascii_if None h = tt
+ascii_if (Some t) h = ascii t h
+
+pub named : (names : Names) (value : ℕ) → are_ascii_names names ≡ true → IfUtf8 (name_in names value)
+named names value h = ascii_if (name_in names value) (named_ascii names value h)
 
 pub machines_ascii : are_ascii_names machine_names ≡ true
 unfolding machine_names
@@ -63,23 +75,23 @@ flags_ascii flags.Dll = refl
 flags_ascii flags.Section = refl
 
 -- ---- flags
-quoted_values : (limit : ℕ) (t : Option (List ℕ)) → IfUtf8 t → AreValues limit (quoted_if t)
+quoted_values : (limit : ℕ) (t : Option (List ℕ)) → IfAscii t → AreValues limit (quoted_if t)
 quoted_values limit None h = tt
-quoted_values limit (Some t) h = (is_string limit t h, tt)
+quoted_values limit (Some t) h = (is_word limit t h, tt)
 
-flag_utf8 : (names : Names) (flags place : ℕ) → are_ascii_names names ≡ true → IfUtf8 (flag_at names flags place)
-flag_utf8 names flags place h = by (bit_and flags (2 ^ place) == 0)
+flag_ascii : (names : Names) (flags place : ℕ) → are_ascii_names names ≡ true → IfAscii (flag_at names flags place)
+flag_ascii names flags place h = by (bit_and flags (2 ^ place) == 0)
   where
-    by : (b : Bool) → IfUtf8 (if b then None else name_in names (bit_and flags (2 ^ place)))
+    by : (b : Bool) → IfAscii (if b then None else name_in names (bit_and flags (2 ^ place)))
     by true = tt
-    by false = named names (bit_and flags (2 ^ place)) h
+    by false = named_ascii names (bit_and flags (2 ^ place)) h
 
 pub is_flags_member : (limit : ℕ) (key : List ℕ) (kind : FlagKind) (flags : ℕ) → IsAsciiText key → IsMember (suc limit) (flags_member key kind flags)
 is_flags_member limit key kind flags key_ascii =
     is_member (suc limit) key (list (flag_items (flag_names kind) flags 32)) key_ascii
     (items_value limit (flag_items (flag_names kind) flags 32)
     (flat_values limit (λ place. quoted_if (flag_at (flag_names kind) flags place)) (range_with_len 0 32)
-    (λ place. quoted_values limit (flag_at (flag_names kind) flags place) (flag_utf8 (flag_names kind) flags place (flags_ascii kind)))))
+    (λ place. quoted_values limit (flag_at (flag_names kind) flags place) (flag_ascii (flag_names kind) flags place (flags_ascii kind)))))
 
 -- ---- the headers
 coff_number_members : (limit : ℕ) (h : FileHeader) → AreMembers (suc limit) (coff_numbers h)

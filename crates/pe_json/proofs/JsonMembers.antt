@@ -1,35 +1,38 @@
 -- The members and the strings of a line are those of JSON.
 use Rattle.std.proofs.Common.{◌≡◌, ◌∙◌, ◌<◌, ◌/◌, ◌%◌, ◌^◌, ℕ, zero, suc, Bool, true, false, List, [], ◌∷◌, ◌++◌, codes, decimal, refl, ap, ap₂, subst, append_assoc, flat_map, map, ◌+◌, IsUtf8, arith, Option, None, Some}
-use Rattle.std.specs.Prelude.{⊤}
+use Rattle.std.specs.Prelude.{⊤, nat_lt}
 use Rattle.std.specs.Str.{is_utf8}
-use Rattle.std.proofs.lemmas.Str.{IsUtf8-append, IsUtf8-nil, IsUtf8-from_is_utf8}
+use Rattle.std.proofs.lemmas.Bool.{and_from}
+use Rattle.std.proofs.lemmas.List.Folds.{list_all-append}
+use Rattle.std.proofs.lemmas.Str.{IsUtf8-from_is_utf8}
 use Rattle.std.proofs.lemmas.Grind.{flat_map-append, common_steps}
 use Rattle.json.specs.Print.{quoted, escape, escape_byte}
-use Rattle.json.proofs.Printed.Utf8.{are_ascii}
 use Rattle.pe_text.specs.Text.{glyph, hex, hex_at_least}
 use Rattle.pe_json.specs.JsonText.{hex_string, member, number, name_as, name, wide, wide_string, text_if, address_string, numbered_rows}
+use Rattle.pe_json.specs.Shown.{shown_string}
 use Rattle.pe_json.proofs.Escapes.{itself}
-use Rattle.pe_json.proofs.Printed.{IsValue, IsMember, AreValues, AreMembers, ascii, is_string, is_number}
+use Rattle.pe_json.proofs.Printed.{IsValue, IsMember, AreValues, AreMembers, is_string, is_word, is_number}
+use Rattle.pe_json.proofs.Shown.{are_ascii}
 
 -- ---- texts of digits
--- a text of UTF-8 that no escape changes
+-- a text of ASCII that no escape changes
 record IsPlain (t : List ℕ) : Type 0 where
   same : escape t ≡ t
-  utf8 : IsUtf8 t
+  ascii : are_ascii t ≡ true
 
 no_text : IsPlain []
-no_text = record { same = refl; utf8 = IsUtf8-nil }
+no_text = record { same = refl; ascii = refl }
 
 plain_then : (t u : List ℕ) → IsPlain t → IsPlain u → IsPlain (t ++ u)
 plain_then t u h k = record {
   same = flat_map-append escape_byte t u ∙ ap₂ (λ (xs ys : List ℕ). xs ++ ys) h.same k.same;
-  utf8 = IsUtf8-append t u h.utf8 k.utf8;
+  ascii = list_all-append (λ byte. nat_lt byte 0x7f) t u ∙ and_from _ _ h.ascii k.ascii;
 }
 
 digit : (d : ℕ) → d < 16 → IsPlain (glyph d ∷ [])
 digit d small = record {
   same = ap (λ (xs : List ℕ). xs ++ []) (itself (glyph d) (grind (arith, common_steps)));
-  utf8 = ascii (glyph d ∷ []) (grind (arith, common_steps));
+  ascii = grind (arith, common_steps);
 }
 
 digits : (width n : ℕ) → IsPlain (hex width n)
@@ -43,10 +46,10 @@ bytes_digits (byte ∷ bytes) = plain_then (hex 2 byte) (flat_map (hex 2) bytes)
 
 prefixed : (t : List ℕ) → IsPlain t → IsPlain (codes "0x" ++ t)
 unfolding escape_byte
-prefixed t h = plain_then (codes "0x") t (record { same = refl; utf8 = ascii (codes "0x") refl }) h
+prefixed t h = plain_then (codes "0x") t (record { same = refl; ascii = refl }) h
 
 plain_string : (limit : ℕ) (t : List ℕ) → IsPlain t → IsValue limit (34 ∷ (t ++ 34 ∷ []))
-plain_string limit t h = subst (λ (xs : List ℕ). IsValue limit (34 ∷ (xs ++ 34 ∷ []))) h.same (is_string limit t h.utf8)
+plain_string limit t h = subst (λ (xs : List ℕ). IsValue limit (34 ∷ (xs ++ 34 ∷ []))) h.same (is_word limit t h.ascii)
 
 -- ---- members
 -- the text is ASCII, by its bytes
@@ -55,16 +58,16 @@ IsAsciiText t = are_ascii t ≡ true
 
 pub is_member : (limit : ℕ) (key t : List ℕ) → IsAsciiText key → IsValue limit t → IsMember limit (member key t)
 unfolding member
-is_member limit key t key_ascii h = record { key = key; own = t; is = append_assoc (quoted key) (codes ":") t; key_utf8 = ascii key key_ascii; holds = h }
+is_member limit key t key_ascii h = record { key = key; own = t; is = append_assoc (quoted key) (codes ":") t; key_ascii = key_ascii; holds = h }
 
 pub number_member : (limit : ℕ) (key : List ℕ) (n : ℕ) → IsAsciiText key → IsMember limit (number key n)
 number_member limit key n key_ascii = is_member limit key (decimal n) key_ascii (is_number limit n)
 
-pub string_member : (limit : ℕ) (key t : List ℕ) → IsAsciiText key → IsUtf8 t → IsMember limit (member key (quoted t))
-string_member limit key t key_ascii utf8 = is_member limit key (quoted t) key_ascii (is_string limit t utf8)
+pub string_member : (limit : ℕ) (key t : List ℕ) → IsAsciiText key → IsUtf8 t → IsMember limit (member key (shown_string t))
+string_member limit key t key_ascii utf8 = is_member limit key (shown_string t) key_ascii (is_string limit t utf8)
 
 pub word_member : (limit : ℕ) (key t : List ℕ) → IsAsciiText key → IsAsciiText t → IsMember limit (member key (quoted t))
-word_member limit key t key_ascii t_ascii = string_member limit key t key_ascii (ascii t t_ascii)
+word_member limit key t key_ascii t_ascii = is_member limit key (quoted t) key_ascii (is_word limit t t_ascii)
 
 pub hex_value : (limit : ℕ) (bytes : List ℕ) → IsValue limit (hex_string bytes)
 unfolding hex_string

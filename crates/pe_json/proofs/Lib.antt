@@ -15,12 +15,14 @@ pub mod ObjectValues
 pub mod Objects
 pub mod OrderedNames
 pub mod Printed
+pub mod ReadBack
 pub mod RecordValues
 pub mod RefusedAlike
 pub mod ResourceLineRows
 pub mod ResourceValues
 pub mod RowByRow
 pub mod SameLines
+pub mod Shown
 pub mod Sized
 pub mod Tested
 pub mod TrustValues

@@ -17,9 +17,9 @@ use Rattle.pe_image.specs.ImageOf.{unless}
 use Rattle.pe_image.specs.ImageTests.{relocation_tests}
 use Rattle.pe_head.specs.HeaderFaults.{head_tests}
 use Rattle.pe_json.specs.declared.beyond.Beyond.{Beyond}
-use Rattle.pe_json.specs.FileLine.{image_members, refused_beyond}
-use Rattle.pe_json.specs.ImageLine.{head_members}
-use Rattle.pe_json.specs.ImageRecords.{own_members}
+use Rattle.pe_json.specs.FileLine.{accepted_image, image_members, refused_beyond}
+use Rattle.pe_json.specs.ImageLine.{head_members, image_line}
+use Rattle.pe_json.specs.ImageRecords.{beyond_members, own_members}
 use Rattle.pe_json.specs.Refused.{exports_if, imports_if, fixups_if}
 use Rattle.pe_json.proofs.NoObject.{head_none}
 
@@ -47,3 +47,10 @@ own_unlaid (Some b) file h heads none some = rw (heads, none, some) (ap (λ (ms 
 pub own_none : (beyond : Option Beyond) (file : List ℕ) → is_none (first_standing (head_tests 0 file)) ≡ false → image_members file ++ refused_beyond beyond file ≡ []
 own_none None file some = rw some refl
 own_none (Some b) file some = rw some refl
+
+-- the line of an image without a fault, with what is told beyond its profile
+pub accepted_beyond : (beyond : Option Beyond) (b : Beyond) (name file bytes : List ℕ) (i l : LaidOut) (strings : Option (List ℕ)) (h own : Headers) (exports : Exports) (imports : List Import) (fixups : List Fixup)
+    → beyond ≡ Some b → bytes ≡ file → l ≡ i → strings ≡ image_strings file h → h ≡ head_of file → own ≡ head_of file → exports ≡ exports_of i → imports ≡ imports_of i → fixups ≡ fixups_of i
+    → image_line name strings h exports imports fixups (beyond_members b bytes own l) ≡ accepted_image beyond name file i
+accepted_beyond beyond b name file bytes i l strings h own exports imports fixups is_beyond is_bytes is_laid is_strings is_h is_own is_exports is_imports is_fixups =
+    rw (is_beyond, is_bytes, is_laid, is_strings, is_h, is_own, is_exports, is_imports, is_fixups) refl

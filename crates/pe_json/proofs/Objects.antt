@@ -4,7 +4,7 @@ use Rattle.std.specs.Prelude.{flat_map, map}
 use Rattle.std.proofs.lemmas.Grind.{flat_map-append}
 use Rattle.std.proofs.lemmas.List.{take-append-drop}
 use Rattle.std.proofs.Math.ListN.{drop_of_length-le}
-use Rattle.json.specs.Print.{quoted, escape}
+use Rattle.json.specs.Print.{quoted}
 use Rattle.pe_text.specs.Text.{hex, hex_at_least, numbered}
 use Rattle.pe_json.specs.JsonText.{with_commas, hex_string, member, object, name_as, text_if, number_if, wide_if, numbered_rows}
 use Rattle.pe_text.specs.declared.text_writer.TextWriter.{TextWriter}
@@ -13,13 +13,14 @@ use Rattle.pe_text.proofs.Adding.{◌then◌}
 use Rattle.std.specs.Str.{is_utf8}
 use Rattle.pe_json.specs.CertificateRows.{name_if}
 use Rattle.pe_json.specs.Listed.{is_nil, items_text, more}
+use Rattle.pe_json.specs.Shown.{shown, shown_string}
 use Rattle.pe_json.specs.Strings.{name_value, name_value_if, value_if, number_value_if, wide_value_if}
 
 -- The member of a name, where a constant stands for its key, colon and quote, and for what stands before the key.
 pub named : (b : Bool) (front key text constant constant_hex : List ℕ) → constant ≡ front ++ quoted key ++ codes ":\"" → constant_hex ≡ front ++ quoted (key ++ codes "_hex") ++ codes ":\""
     → name_value b constant constant_hex text ≡ front ++ name_as b key text
 unfolding member hex_string
-named true front key text constant constant_hex is is_hex = ap (λ (xs : List ℕ). xs ++ escape text ++ codes "\"") is ∙ simp append_assoc refl
+named true front key text constant constant_hex is is_hex = ap (λ (xs : List ℕ). xs ++ shown text ++ codes "\"") is ∙ simp append_assoc refl
 named false front key text constant constant_hex is is_hex = ap (λ (xs : List ℕ). xs ++ flat_map (hex 2) text ++ codes "\"") is_hex ∙ simp append_assoc refl
 
 -- rows after commas
@@ -77,7 +78,7 @@ items_none false = refl
 pub texted : (constant key : List ℕ) (text : Option (List ℕ)) → constant ≡ codes "," ++ (quoted key ++ codes ":") → value_if constant text ≡ more (text_if key text)
 unfolding member text_if more
 texted constant key None is = refl
-texted constant key (Some text) is = ap (λ (xs : List ℕ). xs ++ quoted text) is ∙ sym (append-nil (44 ∷ ((quoted key ++ codes ":") ++ quoted text)))
+texted constant key (Some text) is = ap (λ (xs : List ℕ). xs ++ shown_string text) is ∙ sym (append-nil (44 ∷ ((quoted key ++ codes ":") ++ shown_string text)))
 
 -- the same of a number
 pub number_given : (constant key : List ℕ) (n : Option ℕ) → constant ≡ codes "," ++ (quoted key ++ codes ":") → number_value_if constant n ≡ more (number_if key n)

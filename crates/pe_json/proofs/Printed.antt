@@ -1,4 +1,4 @@
--- Texts of JSON are what values of the crate json print.
+-- Texts of JSON are what values of the crate json print, with strings as they are shown.
 use Rattle.std.proofs.Common.{◌≡◌, ◌∙◌, ◌<◌, ◌≤◌, ℕ, zero, suc, Bool, true, false, List, [], ◌∷◌, ◌++◌, codes, decimal, refl, sym, ap, ap₂, subst, append_assoc, append-nil, fold, IsUtf8, arith, Some}
 use Rattle.std.specs.Prelude.{⊤, ◌==◌, ◌/◌, ◌%◌, if◌then◌else◌, nat_le}
 use Rattle.std.specs.List.{list_all}
@@ -7,55 +7,24 @@ use Rattle.std.proofs.lemmas.List.Folds.{list_all-append}
 use Rattle.std.proofs.lemmas.Grind.{common_steps}
 use Rattle.json.specs.Json.{Json, null, boolean, number, string, array, object, Items, no_items, item, Members, no_members, member, document}
 use Rattle.json.specs.Token.{Token}
-use Rattle.json.specs.Print.{quoted, escape, escape_byte, print_from, ends}
-use Rattle.json.specs.Tree.{json_tokens, items_tokens, members_tokens, depth, items_depth, members_depth, HasNumbers}
-use Rattle.json.proofs.Printed.Tokens.{print_from-append}
-use Rattle.json.proofs.Printed.Trees.{document-print}
-use Rattle.json.proofs.Printed.Utf8.{are_ascii, IsUtf8-are_ascii, IsUtf8-quoted}
+use Rattle.json.specs.Print.{quoted, separator, ends}
+use Rattle.json.specs.Tree.{json_tokens, items_tokens, members_tokens, depth, items_depth, members_depth}
 use Rattle.std.specs.Fmt.{digits, digits_onto, digit_glyph}
-use Rattle.std.proofs.lemmas.Str.{IsUtf8-append, IsUtf8-nil}
 use Rattle.pe_json.specs.JsonText as text
 use Rattle.pe_json.specs.JsonText.{with_commas, list}
 use Rattle.pe_json.specs.Listed.{more}
-use Rattle.pe_json.specs.Value.{HasDecimals, ItemsHaveDecimals, MembersHaveDecimals, IsTextOf}
+use Rattle.pe_json.specs.Shown.{shown_string}
+use Rattle.pe_json.specs.Value.{token_text, print_from, HasPlainLeaves, ItemsHavePlainLeaves, MembersHavePlainLeaves, IsTextOf}
 use Rattle.pe_json.proofs.Objects.{comma_first}
+use Rattle.pe_json.proofs.Shown.{are_ascii, ascii_utf8, ascii_string, IsLineText, no_text, text_then, visible, shown_text}
 
--- ---- texts
--- a text is UTF-8 and has no control character
-pub record IsLineText (t : List ℕ) : Type 0 where
-  pub utf8 : IsUtf8 t
-  pub one_line : list_all (nat_le 0x20) t ≡ true
-
-no_text : IsLineText []
-no_text = record { utf8 = IsUtf8-nil; one_line = refl }
-
-text_then : (t u : List ℕ) → IsLineText t → IsLineText u → IsLineText (t ++ u)
-text_then t u h k = record {
-  utf8 = IsUtf8-append t u h.utf8 k.utf8;
-  one_line = list_all-append (nat_le 0x20) t u ∙ and_from _ _ h.one_line k.one_line;
-}
-
--- the test of a text that has no byte above 127
+-- the test of a text of ASCII
 pub ascii : (t : List ℕ) → are_ascii t ≡ true → IsUtf8 t
-ascii = IsUtf8-are_ascii
+ascii = ascii_utf8
 
--- the same of one without control characters
-visible : (t : List ℕ) → are_ascii t ≡ true → list_all (nat_le 0x20) t ≡ true → IsLineText t
-visible t is_ascii one_line = record { utf8 = ascii t is_ascii; one_line = one_line }
-
-escaped_byte : (byte : ℕ) → list_all (nat_le 0x20) (escape_byte byte) ≡ true
-unfolding escape_byte
-escaped_byte byte = grind (arith, common_steps)
-
-escaped : (t : List ℕ) → list_all (nat_le 0x20) (escape t) ≡ true
-escaped [] = refl
-escaped (byte ∷ bytes) = list_all-append (nat_le 0x20) (escape_byte byte) (escape bytes) ∙ and_from _ _ (escaped_byte byte) (escaped bytes)
-
-quoted_text : (t : List ℕ) → IsUtf8 t → IsLineText (quoted t)
-quoted_text t utf8 = record {
-  utf8 = IsUtf8-quoted t utf8;
-  one_line = list_all-append (nat_le 0x20) (escape t) (34 ∷ []) ∙ and_from _ _ (escaped t) refl;
-}
+-- a key is as the crate json writes it
+key_text : (key : List ℕ) → are_ascii key ≡ true → IsLineText (quoted key)
+key_text key h = subst IsLineText (ascii_string key h) (shown_text key (ascii key h))
 
 -- ---- values and members, as texts
 -- a text is that of a value that nests no deeper than a limit
@@ -64,14 +33,14 @@ pub record IsValue (limit : ℕ) (t : List ℕ) : Type 0 where
   pub prints : print_from false (json_tokens value) ≡ t
   pub line_text : IsLineText t
   pub shallow : depth value ≤ limit
-  pub decimals : HasDecimals value
+  pub leaves : HasPlainLeaves value
 
 -- a text is that of a member: a key, and such a value
 pub record IsMember (limit : ℕ) (t : List ℕ) : Type 0 where
   pub key : List ℕ
   pub own : List ℕ
   pub is : t ≡ quoted key ++ (58 ∷ own)
-  pub key_utf8 : IsUtf8 key
+  pub key_ascii : are_ascii key ≡ true
   pub holds : IsValue limit own
 
 abbrev pub AreValues : ℕ → List (List ℕ) → Type 0
@@ -91,6 +60,13 @@ members_of limit [] h = no_members
 members_of limit (t ∷ ts) h = member (h.0).key (h.0).holds.value (members_of limit ts h.1)
 
 -- ---- a value ends, and begins, as one
+print_from-append : (c : Bool) (ts us : List Token) → print_from c (ts ++ us) ≡ print_from c ts ++ print_from (fold (λ _ u. ends u) c ts) us
+unfolding print_from
+print_from-append c [] us = refl
+print_from-append c (t ∷ ts) us =
+    ap (λ (xs : List ℕ). separator c t ++ (token_text t ++ xs)) (print_from-append (ends t) ts us)
+    ∙ ap (λ (xs : List ℕ). separator c t ++ xs) (sym (append_assoc (token_text t) _ _)) ∙ sym (append_assoc (separator c t) _ _)
+
 fold-append : (c : Bool) (ts us : List Token) → fold (λ _ u. ends u) c (ts ++ us) ≡ fold (λ _ u. ends u) (fold (λ _ u. ends u) c ts) us
 fold-append c [] us = refl
 fold-append c (t ∷ ts) us = fold-append (ends t) ts us
@@ -185,19 +161,19 @@ members_shallow : (limit : ℕ) (ts : List (List ℕ)) (h : AreMembers limit ts)
 members_shallow limit [] h = omega arith
 members_shallow limit (t ∷ ts) h = omega (arith, (h.0).holds.shallow, members_shallow limit ts h.1)
 
--- ---- their numbers
-items_decimal : (limit : ℕ) (ts : List (List ℕ)) (h : AreValues limit ts) → ItemsHaveDecimals (items_of limit ts h)
-items_decimal limit [] h = tt
-items_decimal limit (t ∷ ts) h = ((h.0).decimals, items_decimal limit ts h.1)
+-- ---- their numbers and strings
+items_leaves : (limit : ℕ) (ts : List (List ℕ)) (h : AreValues limit ts) → ItemsHavePlainLeaves (items_of limit ts h)
+items_leaves limit [] h = tt
+items_leaves limit (t ∷ ts) h = ((h.0).leaves, items_leaves limit ts h.1)
 
-members_decimal : (limit : ℕ) (ts : List (List ℕ)) (h : AreMembers limit ts) → MembersHaveDecimals (members_of limit ts h)
-members_decimal limit [] h = tt
-members_decimal limit (t ∷ ts) h = ((h.0).holds.decimals, members_decimal limit ts h.1)
+members_leaves : (limit : ℕ) (ts : List (List ℕ)) (h : AreMembers limit ts) → MembersHavePlainLeaves (members_of limit ts h)
+members_leaves limit [] h = tt
+members_leaves limit (t ∷ ts) h = ((h.0).holds.leaves, members_leaves limit ts h.1)
 
 -- ---- their texts
 member_text : (limit : ℕ) (t : List ℕ) → IsMember limit t → IsLineText t
 member_text limit t h =
-    subst IsLineText (sym h.is) (text_then (quoted h.key) (58 ∷ h.own) (quoted_text h.key h.key_utf8) (text_then (58 ∷ []) h.own (visible (58 ∷ []) refl refl) h.holds.line_text))
+    subst IsLineText (sym h.is) (text_then (quoted h.key) (58 ∷ h.own) (key_text h.key h.key_ascii) (text_then (58 ∷ []) h.own (visible (58 ∷ []) refl refl) h.holds.line_text))
 
 abbrev AreLineTexts : List (List ℕ) → Type 0
 AreLineTexts [] = ⊤
@@ -233,7 +209,7 @@ items_value limit ts h = record {
   prints = list_prints limit ts h;
   line_text = between_text 91 93 (with_commas ts) (visible _ refl refl) (visible _ refl refl) (commas_text ts (value_texts limit ts h));
   shallow = omega (arith, items_shallow limit ts h);
-  decimals = items_decimal limit ts h;
+  leaves = items_leaves limit ts h;
 }
 
 pub members_value : (limit : ℕ) (ts : List (List ℕ)) → AreMembers limit ts → IsValue (suc limit) (text.object ts)
@@ -243,22 +219,26 @@ members_value limit ts h = record {
   prints = object_prints limit ts h;
   line_text = between_text 123 125 (with_commas ts) (visible _ refl refl) (visible _ refl refl) (commas_text ts (member_texts limit ts h));
   shallow = omega (arith, members_shallow limit ts h);
-  decimals = members_decimal limit ts h;
+  leaves = members_leaves limit ts h;
 }
 
 -- a line of members is the text of an object
 pub object_text : (ts : List (List ℕ)) → AreMembers 127 ts → (members : Members) × IsTextOf (object members) (text.object ts)
 unfolding members_value
-object_text ts h = let v = members_value 127 ts h in (members_of 127 ts h, record { prints = v.prints; utf8 = v.line_text.utf8; one_line = v.line_text.one_line; shallow = v.shallow; decimals = v.decimals })
+object_text ts h = let v = members_value 127 ts h in (members_of 127 ts h, record { prints = v.prints; utf8 = v.line_text.utf8; one_line = v.line_text.one_line; none_hidden = v.line_text.none_hidden; shallow = v.shallow; leaves = v.leaves })
 
-pub is_string : (limit : ℕ) (t : List ℕ) → IsUtf8 t → IsValue limit (quoted t)
+pub is_string : (limit : ℕ) (t : List ℕ) → IsUtf8 t → IsValue limit (shown_string t)
 unfolding print_from
-is_string limit t utf8 = record { value = string t; prints = append-nil (quoted t); line_text = quoted_text t utf8; shallow = omega arith; decimals = tt }
+is_string limit t utf8 = record { value = string t; prints = append-nil (shown_string t); line_text = shown_text t utf8; shallow = omega arith; leaves = utf8 }
+
+-- one of ASCII
+pub is_word : (limit : ℕ) (t : List ℕ) → are_ascii t ≡ true → IsValue limit (quoted t)
+is_word limit t h = subst (IsValue limit) (ascii_string t h) (is_string limit t (ascii t h))
 
 pub is_boolean : (limit : ℕ) (b : Bool) → IsValue limit (text.boolean b)
 unfolding print_from
-is_boolean limit true = record { value = boolean true; prints = refl; line_text = visible _ refl refl; shallow = omega arith; decimals = tt }
-is_boolean limit false = record { value = boolean false; prints = refl; line_text = visible _ refl refl; shallow = omega arith; decimals = tt }
+is_boolean limit true = record { value = boolean true; prints = refl; line_text = visible _ refl refl; shallow = omega arith; leaves = tt }
+is_boolean limit false = record { value = boolean false; prints = refl; line_text = visible _ refl refl; shallow = omega arith; leaves = tt }
 
 -- decimal digits, however many
 digit_then : (d : ℕ) (acc : List ℕ) → d < 10 → IsLineText acc → IsLineText (digit_glyph false d ∷ acc)
@@ -275,8 +255,4 @@ digits_text (suc k) n acc h = by (n / 10 == 0) (digits_text k (n / 10) (digit_gl
 
 pub is_number : (limit n : ℕ) → IsValue limit (decimal n)
 unfolding print_from digits
-is_number limit n = record { value = number (decimal n); prints = append-nil (decimal n); line_text = digits_text 64 n [] no_text; shallow = omega arith; decimals = (n, refl) }
-
--- ---- what is read
-pub read_back : (value : Json) (t : List ℕ) → IsTextOf value t → HasNumbers value → document t ≡ Some value
-read_back value t h numbers = ap document (sym h.prints) ∙ document-print value numbers h.shallow
+is_number limit n = record { value = number (decimal n); prints = append-nil (decimal n); line_text = digits_text 64 n [] no_text; shallow = omega arith; leaves = (n, refl) }

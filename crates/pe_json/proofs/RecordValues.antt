@@ -279,14 +279,14 @@ are_record_members limit functions machine i =
     (members_then _ (structure_members LoadConfiguration i) _ (are_structure_members _ LoadConfiguration i (i.directory 10))
     (members_then _ (bound_members i) (structure_members ClrHeader i) (are_bound_members _ i (i.directory 11)) (are_structure_members _ ClrHeader i (i.directory 14)))))))
 
-pub are_members_beyond : (limit : ℕ) (beyond : Option Beyond) (file : List ℕ) (h : Headers) (i : LaidOut) → AreMembers (suc (suc (suc (suc limit)))) (members_beyond beyond file h i)
+pub are_members_beyond : (limit : ℕ) (beyond : Option Beyond) (file : List ℕ) (h : Headers) (i : LaidOut) → AreMembers (suc (suc (suc (suc (suc limit))))) (members_beyond beyond file h i)
 are_members_beyond limit None file h i = tt
 are_members_beyond limit (Some b) file h i =
     members_then _ (record_members b.functions h.machine i) _ (are_record_members _ b.functions h.machine i)
     (members_then _ (delay_members i) _ (are_delay_members _ (i.directory 13) (delay_imports_of i))
     (members_then _ (resource_members i) _ (are_resource_members _ i)
-    (members_then _ (symbol_members b.symbols file h) _ (are_symbols limit _ (image_symbols file h))
-    (members_then _ (trust_members b.digests file h) _ (are_trust_members limit b.digests file h)
+    (members_then _ (symbol_members b.symbols file h) _ (are_symbols (suc limit) _ (image_symbols file h))
+    (members_then _ (trust_members b.digests file h) _ (are_trust_members (suc limit) b.digests file h)
     (members_then _ (imphash_if (import_hash_of (imports_of i))) (findings_members file h i) (are_imphash_if _ (import_hash_of (imports_of i))) (are_findings_in _ (image_findings file h i)))))))
 
 are_hash_if : (limit : ℕ) (imports : Option (List Import)) → AreMembers (suc limit) (hash_if imports)

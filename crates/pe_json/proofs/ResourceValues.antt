@@ -9,12 +9,12 @@ use Rattle.pe_resources.specs.Texts.{data_of, name_text_of}
 use Rattle.pe_resources.specs.Walk.{leaves_of}
 use Rattle.pe_resources.specs.declared.leaf.Leaf.{Leaf}
 use Rattle.pe_version.specs.FixedInfo.{fixed_info_of}
-use Rattle.pe_version.specs.Strings.{Text, strings_of}
+use Rattle.pe_version.specs.Tables.{Entry, Table, tables_of}
 use Rattle.pe_version.specs.declared.fixed.FixedInfo.{FixedInfo}
 use Rattle.pe_json.specs.JsonText.{number, text_if}
 use Rattle.pe_json.specs.ResourceRows.{entry_name, leaf_names, leaf_numbers, leaf_row, leaves_members, level_name, manifest_if, manifest_members, resource_members, told_units}
 use Rattle.pe_json.specs.Utf16.{utf8_text}
-use Rattle.pe_json.specs.VersionRows.{fixed_members, four_numbers, kind_numbers, string_row, strings_member, units_member, version_at, version_in, version_members, version_numbers}
+use Rattle.pe_json.specs.VersionRows.{fixed_members, four_numbers, kind_numbers, string_row, table_row, tables_member, units_member, version_at, version_in, version_members, version_numbers}
 use Rattle.pe_json.proofs.Printed.{IsMember, IsValue, AreMembers, AreValues, is_number, items_value, members_value}
 use Rattle.pe_json.proofs.JsonMembers.{IfUtf8, IsAsciiText, is_member, members_then, name_member, number_member, row_values, string_member, text_members}
 use Rattle.pe_json.proofs.Utf16Texts.{text_is_utf8}
@@ -78,26 +78,29 @@ are_fixed limit (Some f) = members_then _ (version_numbers f) (kind_numbers f) (
 units_is_member : (limit : ℕ) (key units : List ℕ) → IsAsciiText key → IsMember limit (units_member key units)
 units_is_member limit key units key_ascii = string_member limit key (utf8_text units) key_ascii (text_is_utf8 units)
 
-string_value : (limit : ℕ) (s : Text) → IsValue (suc limit) (string_row s)
-string_value limit s =
-    members_value limit _ (
-      units_is_member limit (codes "table") s.table refl,
-      (units_is_member limit (codes "key") s.key refl, (units_is_member limit (codes "value") s.value refl, tt)),
+string_value : (limit : ℕ) (s : Entry) → IsValue (suc limit) (string_row s)
+string_value limit s = members_value limit _ (units_is_member limit (codes "key") s.key refl, (units_is_member limit (codes "value") s.value refl, tt))
+
+table_value : (limit : ℕ) (t : Table) → IsValue (suc (suc (suc limit))) (table_row t)
+table_value limit t =
+    members_value (suc (suc limit)) _ (
+      units_is_member _ (codes "key") t.key refl,
+      (is_member _ _ _ refl (items_value (suc limit) _ (row_values (suc limit) string_row t.strings (string_value limit))), tt),
     )
 
-are_strings : (limit : ℕ) (strings : List Text) → AreMembers (suc (suc limit)) (strings_member strings)
-unfolding strings_member
-are_strings limit strings = (is_member _ _ _ refl (items_value (suc limit) _ (row_values (suc limit) string_row strings (string_value limit))), tt)
+are_tables : (limit : ℕ) (tables : List Table) → AreMembers (suc (suc (suc (suc limit)))) (tables_member tables)
+unfolding tables_member
+are_tables limit tables = (is_member _ _ _ refl (items_value _ _ (row_values (suc (suc (suc limit))) table_row tables (table_value limit))), tt)
 
-are_data : (limit : ℕ) (bytes : Option (List ℕ)) → AreMembers (suc (suc limit)) (version_in bytes)
+are_data : (limit : ℕ) (bytes : Option (List ℕ)) → AreMembers (suc (suc (suc (suc limit)))) (version_in bytes)
 are_data limit None = tt
 are_data limit (Some bytes) =
-    members_then _ (fixed_members (fixed_info_of bytes)) (strings_member (strings_of bytes)) (are_fixed _ (fixed_info_of bytes)) (are_strings limit (strings_of bytes))
+    members_then _ (fixed_members (fixed_info_of bytes)) (tables_member (tables_of bytes)) (are_fixed _ (fixed_info_of bytes)) (are_tables limit (tables_of bytes))
 
-are_versions : (limit : ℕ) (i : LaidOut) (leaf : Option Leaf) → AreMembers (suc (suc (suc limit))) (version_at i leaf)
+are_versions : (limit : ℕ) (i : LaidOut) (leaf : Option Leaf) → AreMembers (suc (suc (suc (suc (suc limit))))) (version_at i leaf)
 unfolding version_at
 are_versions limit i None = tt
-are_versions limit i (Some leaf) = (is_member _ _ _ refl (members_value (suc (suc limit)) _ (number_member _ _ _ refl, are_data limit (data_of i leaf))), tt)
+are_versions limit i (Some leaf) = (is_member _ _ _ refl (members_value (suc (suc (suc (suc limit)))) _ (number_member _ _ _ refl, are_data limit (data_of i leaf))), tt)
 
 -- ---- the manifest, and all of them
 are_manifests : (limit : ℕ) (text : Option (List ℕ)) → AreMembers limit (manifest_if text)
@@ -105,7 +108,7 @@ unfolding manifest_if
 are_manifests limit None = tt
 are_manifests limit (Some text) = (name_member _ _ _ refl refl, tt)
 
-pub are_resource_members : (limit : ℕ) (i : LaidOut) → AreMembers (suc (suc (suc limit))) (resource_members i)
+pub are_resource_members : (limit : ℕ) (i : LaidOut) → AreMembers (suc (suc (suc (suc (suc limit))))) (resource_members i)
 are_resource_members limit i =
     members_then _ (leaves_members i (leaves_of i) (i.directory 2)) _ (are_leaves _ i (leaves_of i) (i.directory 2))
     (members_then _ (version_members i) (manifest_members i) (are_versions limit i (version_of i)) (are_manifests _ (option_and_then (data_of i) (manifest_of i))))

@@ -3,6 +3,7 @@ use Rattle.std.specs.Prelude.{ℕ, ◌+◌, Bool, true, false, List, [], ◌∷�
 use Rattle.std.specs.Str.{is_utf8}
 use Rattle.json.specs.Print.{quoted}
 use Rattle.pe_text.specs.Text.{hex, hex_at_least}
+use Rattle.pe_json.specs.Shown.{shown_string}
 
 -- texts one after the other, with a comma between two
 unfoldable pub with_commas : List (List ℕ) → List ℕ
@@ -10,7 +11,7 @@ with_commas [] = []
 with_commas (text ∷ []) = text
 with_commas (text ∷ next ∷ texts) = text ++ (codes "," ++ with_commas (next ∷ texts))
 
--- A string is `quoted` of the crate json: the shortest escapes of quotes, backslashes and control characters, and all else as it is.
+-- A key, and a string that no file has a say in, is `quoted` of the crate json: these are ASCII. Any other string is `shown_string`.
 
 -- bytes: a string of two hexadecimal digits each
 unfoldable pub hex_string : List ℕ → List ℕ
@@ -30,7 +31,7 @@ number key n = member key (decimal n)
 
 -- a name: a string if it is UTF-8, else its bytes under the key that ends in `_hex`
 abbrev pub name_as : Bool → List ℕ → List ℕ → List ℕ
-name_as true key text = member key (quoted text)
+name_as true key text = member key (shown_string text)
 name_as false key text = member (key ++ codes "_hex") (hex_string text)
 
 abbrev pub name : List ℕ → List ℕ → List ℕ
@@ -47,7 +48,7 @@ wide_string n = codes "\"0x" ++ (hex_at_least 1 n ++ codes "\"")
 -- a string that may be left out, with its key
 unfoldable pub text_if : List ℕ → Option (List ℕ) → List (List ℕ)
 text_if key None = []
-text_if key (Some text) = member key (quoted text) ∷ []
+text_if key (Some text) = member key (shown_string text) ∷ []
 
 -- a number that may be left out, with its key
 unfoldable pub number_if : List ℕ → Option ℕ → List (List ℕ)

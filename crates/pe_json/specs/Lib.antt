@@ -30,6 +30,7 @@ pub mod Refused
 pub mod ResourceRows
 pub mod RichRows
 pub mod Sections
+pub mod Shown
 pub mod Strings
 pub mod StructureKeys
 pub mod StructureRows

@@ -1,14 +1,14 @@
 -- The version information of an image in a line of JSON.
 use Rattle.std.specs.Prelude.{ℕ, List, [], ◌∷◌, ◌++◌, codes, decimal, map, Option, None, Some}
-use Rattle.json.specs.Print.{quoted}
 use Rattle.pe_layout.specs.Image.{LaidOut}
 use Rattle.pe_resources.specs.Single as single
 use Rattle.pe_resources.specs.Texts.{data_of}
 use Rattle.pe_resources.specs.declared.leaf.Leaf.{Leaf}
 use Rattle.pe_version.specs.FixedInfo.{fixed_info_of, version_of}
-use Rattle.pe_version.specs.Strings.{Text, strings_of}
+use Rattle.pe_version.specs.Tables.{Entry, Table, tables_of}
 use Rattle.pe_version.specs.declared.fixed.FixedInfo.{FixedInfo}
 use Rattle.pe_json.specs.JsonText.{member, object, list, number}
+use Rattle.pe_json.specs.Shown.{shown_string}
 use Rattle.pe_json.specs.Utf16.{utf8_text}
 
 -- the four numbers of a version, from the two fields that have them
@@ -33,18 +33,22 @@ fixed_members (Some f) = version_numbers f ++ kind_numbers f
 
 -- a text in UTF-16 as a string
 abbrev pub units_member : List ℕ → List ℕ → List ℕ
-units_member key units = member key (quoted (utf8_text units))
+units_member key units = member key (shown_string (utf8_text units))
 
-abbrev pub string_row : Text → List ℕ
-string_row s = object (units_member (codes "table") s.table ∷ (units_member (codes "key") s.key ∷ (units_member (codes "value") s.value ∷ [])))
+abbrev pub string_row : Entry → List ℕ
+string_row s = object (units_member (codes "key") s.key ∷ (units_member (codes "value") s.value ∷ []))
 
-unfoldable pub strings_member : List Text → List (List ℕ)
-strings_member strings = member (codes "strings") (list (map string_row strings)) ∷ []
+-- a string table: its key, and its strings
+abbrev pub table_row : Table → List ℕ
+table_row t = object (units_member (codes "key") t.key ∷ (member (codes "strings") (list (map string_row t.strings)) ∷ []))
+
+unfoldable pub tables_member : List Table → List (List ℕ)
+tables_member tables = member (codes "string_tables") (list (map table_row tables)) ∷ []
 
 -- what the data say, if the file holds them in one run
 abbrev pub version_in : Option (List ℕ) → List (List ℕ)
 version_in None = []
-version_in (Some bytes) = fixed_members (fixed_info_of bytes) ++ strings_member (strings_of bytes)
+version_in (Some bytes) = fixed_members (fixed_info_of bytes) ++ tables_member (tables_of bytes)
 
 -- the member of version information, if there is any: where its data are, and what they say
 unfoldable pub version_at : LaidOut → Option Leaf → List (List ℕ)

@@ -16,8 +16,9 @@ ghost use Rattle.pe_view.specs.declared.fault.Fault.{Fault};
 ghost use Rattle.pe_view.specs.declared.fault.Place.TheVariants.{Rva};
 
 /// The line of a file is the text of a JSON object (RFC 8259) and a line feed, whatever the file's name and bytes are and whether it is
-/// refused, also by its first bytes, of which nothing else is told: it is UTF-8, no other byte of it is a control character, and its
-/// numbers are decimal digits.
+/// refused, also by its first bytes, of which nothing else is told: it is UTF-8, no other byte of it is a control character, it has no
+/// character that terminals obey or that nobody sees (U+007F to U+009F, U+2028 to U+202E, U+2066 to U+2069 and U+FEFF), and its numbers
+/// are decimal digits.
 pub fn lines_are_json()
     ensures file { (beyond : Option Beyond) (name : List ℕ) (size : ℕ) (file : List ℕ) (outcome : Outcome) → (members : Members) × (text : List ℕ)
         × (file_line beyond name size file outcome ≡ text ++ codes "\n") × IsTextOf (object members) text }

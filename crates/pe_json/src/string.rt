@@ -1,22 +1,30 @@
 //! Strings and numbers of a line of JSON, written into its text.
 
-ghost use Rattle.std.specs.Prelude.{◌≡◌, ◌++◌, flat_map, codes, decimal, option_map};
+ghost use Rattle.std.specs.Prelude.{◌≡◌, ◌++◌, ◌<◌, ◌≤◌, List, ℕ, codes, decimal, false, flat_map, length, option_map, slice_index, take, true};
 ghost use Rattle.std.specs.List.{list_all};
+ghost use Rattle.std.specs.Char.{encode_utf8};
 ghost use Rattle.std.specs.Str.{is_utf8};
 ghost use Rattle.json.specs.Print.{escape_letter, escape_byte, escape, quoted};
 ghost use Rattle.pe_text.specs.Text.{hex, hex_at_least};
 ghost use Rattle.pe_text.specs.TextWriter.{IsReady, Adds};
+ghost use Rattle.pe_json.specs.Shown.{is_hidden, shown, shown_character};
 ghost use Rattle.pe_json.specs.Strings.{is_plain, name_value, value_if, number_value_if, wide_value_if};
 
 use pe_text::{Sink, TextWriter};
 use std::str;
 
-/// Whether a byte of a string stands for itself.
+/// Whether a byte of a string stands for itself, whatever follows it. 0xc2, 0xe2 and 0xef begin characters of which some are hidden.
 #[inline]
 fn is_plain(byte: u8) -> bool
     ensures { result ≡ is_plain byte }
 {
-    byte >= 0x20 && byte != b'"' && byte != b'\\'
+    byte >= 0x20
+        && byte != b'"'
+        && byte != b'\\'
+        && byte != 0x7f
+        && byte != 0xc2
+        && byte != 0xe2
+        && byte != 0xef
 }
 
 /// Whether all bytes of a piece stand for themselves: all are looked at, which goes by vectors.
@@ -95,8 +103,8 @@ fn write_bytes<W: Sink>(text: &mut TextWriter<W>, bytes: &[u8])
     }
 }
 
-/// Adds the bytes of a string, with escapes.
-pub(crate) fn write_string<W: Sink>(text: &mut TextWriter<W>, bytes: &[u8])
+/// Adds the bytes of a fixed text, with escapes.
+fn write_escaped<W: Sink>(text: &mut TextWriter<W>, bytes: &[u8])
     requires { IsReady W.failures text.old }
     ensures { Adds W.taken W.failures text.old text.new (escape bytes.now) }
 {
@@ -104,6 +112,98 @@ pub(crate) fn write_string<W: Sink>(text: &mut TextWriter<W>, bytes: &[u8])
         text.text(bytes);
     } else {
         write_bytes(text, bytes);
+    }
+}
+
+/// Whether a character of a string is hidden: a terminal or an editor obeys it, or nobody sees it.
+#[inline]
+fn is_hidden(character: char) -> bool
+    ensures { result ≡ is_hidden character }
+{
+    matches!(character, '\u{7f}'..='\u{9f}' | '\u{2028}'..='\u{202e}' | '\u{2066}'..='\u{2069}' | '\u{feff}')
+}
+
+/// Adds a character that is not hidden.
+fn write_seen<W: Sink>(text: &mut TextWriter<W>, character: char)
+    requires { IsReady W.failures text.old }
+    ensures { Adds W.taken W.failures text.old text.new (escape (encode_utf8 character)) }
+{
+    if character < '\u{80}' {
+        write_byte(text, character as u8);
+        return;
+    }
+    let mut bytes = [0; 4];
+    text.text(character.encode_utf8(&mut bytes).as_bytes());
+}
+
+/// Adds a character of a string.
+#[tactic(auto, unfolding(crate::specs::Shown::shown_character))]
+pub(crate) fn write_character<W: Sink>(text: &mut TextWriter<W>, character: char)
+    requires { IsReady W.failures text.old }
+    ensures { Adds W.taken W.failures text.old text.new (shown_character character) }
+{
+    if is_hidden(character) {
+        text.text(b"\\u");
+        text.hex(4, character as u64);
+    } else {
+        write_seen(text, character);
+    }
+}
+
+/// How many bytes at the beginning stand for themselves.
+fn plain_len(bytes: &[u8]) -> usize
+    ensures within { result ≤ length bytes.now }
+    ensures plain { list_all is_plain (take result bytes.now) ≡ true }
+    ensures ends { result < length bytes.now → is_plain (slice_index bytes.now result) ≡ false }
+{
+    for (place, byte) in bytes.iter().enumerate() {
+        if !is_plain(*byte) {
+            return place;
+        }
+    }
+    bytes.len()
+}
+
+/// Adds what stands for itself at the beginning of a text, and the character after it, and returns what follows.
+fn write_run<'a, W: Sink>(text: &mut TextWriter<W>, string: &'a str) -> &'a str
+    requires ready { IsReady W.failures text.old }
+    requires some { 0 < length string.now }
+    ensures adds { (run : List ℕ) × Adds W.taken W.failures text.old text.new run × (shown string.entry.now ≡ run ++ shown result.now) }
+    ensures shorter { length result.now < length string.entry.now }
+{
+    let (run, rest) = string.split_at(plain_len(string.as_bytes()));
+    text.text(run.as_bytes());
+    let mut characters = rest.chars();
+    let Some(character) = characters.next() else {
+        return rest;
+    };
+    write_character(text, character);
+    characters.as_str()
+}
+
+/// Adds a string in runs. It stands apart so that callers hold what stands for itself in line.
+#[cold]
+#[inline(never)]
+fn write_runs<W: Sink>(text: &mut TextWriter<W>, string: &str)
+    requires { IsReady W.failures text.old }
+    ensures { Adds W.taken W.failures text.old text.new (shown string.now) }
+{
+    let mut rest = string;
+    while !rest.is_empty() {
+        rest = write_run(text, rest);
+    }
+}
+
+/// Adds the characters of a string, as JSON shows them.
+pub(crate) fn write_string<W: Sink>(text: &mut TextWriter<W>, string: &str)
+    requires { IsReady W.failures text.old }
+    ensures { Adds W.taken W.failures text.old text.new (shown string.now) }
+{
+    let bytes = string.as_bytes();
+    if is_plain_text(bytes) {
+        text.text(bytes);
+    } else {
+        write_runs(text, string);
     }
 }
 
@@ -117,14 +217,14 @@ pub(crate) fn write_digits<W: Sink>(text: &mut TextWriter<W>, bytes: &[u8])
     }
 }
 
-/// Adds a name in quotes.
+/// Adds a fixed text in quotes, which is ASCII: no file has a say in it.
 #[tactic(auto, unfolding(json::specs::Print::quoted))]
 pub fn write_quoted<W: Sink>(text: &mut TextWriter<W>, name: &[u8])
     requires { IsReady W.failures text.old }
     ensures { Adds W.taken W.failures text.old text.new (quoted name.now) }
 {
     text.text(b"\"");
-    write_string(text, name);
+    write_escaped(text, name);
     text.text(b"\"");
 }
 
@@ -136,7 +236,7 @@ fn write_whole_name<W: Sink>(text: &mut TextWriter<W>, key: &[u8], key_hex: &[u8
     match str::from_utf8(name) {
         Ok(name) => {
             text.text(key);
-            write_string(text, name.as_bytes());
+            write_string(text, name);
         }
         Err(_) => {
             text.text(key_hex);
@@ -179,7 +279,7 @@ pub(crate) fn write_wide<W: Sink>(text: &mut TextWriter<W>, key: &[u8], number: 
     text.text(b"\"");
 }
 
-/// Adds a fixed string after its key, if there is one.
+/// Adds a string after its key, if there is one.
 pub fn write_text_if<W: Sink>(text: &mut TextWriter<W>, key: &[u8], name: Option<&str>)
     requires { IsReady W.failures text.old }
     ensures { Adds W.taken W.failures text.old text.new (value_if key.now (option_map (λ name. name.now) name.entry)) }
@@ -188,7 +288,9 @@ pub fn write_text_if<W: Sink>(text: &mut TextWriter<W>, key: &[u8], name: Option
         return;
     };
     text.text(key);
-    write_quoted(text, name.as_bytes());
+    text.text(b"\"");
+    write_string(text, name);
+    text.text(b"\"");
 }
 
 /// Adds a number after its key, if there is one.

@@ -2,19 +2,21 @@
 
 ghost use Rattle.std.specs.Prelude.{◌++◌, [], ◌∷◌, codes, map, option_map, true};
 ghost use Rattle.pe_layout.specs.Layout.{image_of};
-ghost use Rattle.pe_version.specs.Strings.{strings_of};
-ghost use Rattle.pe_version.specs.StringsLeft.{string_view, strings_left};
+ghost use Rattle.pe_version.specs.Tables.{tables_of};
+ghost use Rattle.pe_version.specs.TablesLeft.{entries_left, entry_view, table_view, tables_left};
 ghost use Rattle.pe_text.specs.TextWriter.{IsReady, Adds};
 ghost use Rattle.pe_json.specs.JsonText.{with_commas};
 ghost use Rattle.pe_json.specs.Listed.{items_text, more};
-ghost use Rattle.pe_json.specs.VersionRows.{fixed_members, four_numbers, kind_numbers, string_row, strings_member, version_in, version_members, version_numbers};
+ghost use Rattle.pe_json.specs.VersionRows.{fixed_members, four_numbers, kind_numbers, string_row, table_row, tables_member, version_in, version_members, version_numbers};
 
 use crate::string::write_number;
 use crate::utf16::write_units;
 use pe_layout::Layout;
 use pe_resources::{leaf_data, version};
 use pe_text::{Sink, TextWriter};
-use pe_version::{FixedInfo, VersionString, VersionStrings, fixed_info, version_strings};
+use pe_version::{
+    FixedInfo, TableString, TableStrings, VersionTable, VersionTables, fixed_info, version_tables,
+};
 
 /// Adds the four numbers of a version after their key, which ends with what comes before the first, given the two fields that have them.
 fn write_four_numbers<W: Sink>(text: &mut TextWriter<W>, key: &[u8], high: u32, low: u32)
@@ -72,13 +74,11 @@ fn write_fixed<W: Sink>(text: &mut TextWriter<W>, fixed: Option<FixedInfo>)
 }
 
 /// Adds a string.
-fn write_string_row<W: Sink>(text: &mut TextWriter<W>, string: &VersionString)
+fn write_string_row<W: Sink>(text: &mut TextWriter<W>, string: &TableString)
     requires { IsReady W.failures text.old }
-    ensures { Adds W.taken W.failures text.old text.new (string_row (string_view string.now)) }
+    ensures { Adds W.taken W.failures text.old text.new (string_row (entry_view string.now)) }
 {
-    text.text(b"{\"table\":");
-    write_units(text, string.table);
-    text.text(b",\"key\":");
+    text.text(b"{\"key\":");
     write_units(text, string.key);
     text.text(b",\"value\":");
     write_units(text, string.value);
@@ -86,9 +86,9 @@ fn write_string_row<W: Sink>(text: &mut TextWriter<W>, string: &VersionString)
 }
 
 /// Adds a string, after a comma unless it is the first of the list.
-fn write_next_string<W: Sink>(text: &mut TextWriter<W>, first: bool, string: &VersionString)
+fn write_next_string<W: Sink>(text: &mut TextWriter<W>, first: bool, string: &TableString)
     requires { IsReady W.failures text.old }
-    ensures { Adds W.taken W.failures text.old text.new (items_text first (string_row (string_view string.now) ∷ [])) }
+    ensures { Adds W.taken W.failures text.old text.new (items_text first (string_row (entry_view string.now) ∷ [])) }
 {
     if first {
         write_string_row(text, string);
@@ -99,9 +99,9 @@ fn write_next_string<W: Sink>(text: &mut TextWriter<W>, first: bool, string: &Ve
 }
 
 /// Adds strings, with a comma between two.
-fn write_each_string<W: Sink>(text: &mut TextWriter<W>, strings: VersionStrings)
+fn write_each_string<W: Sink>(text: &mut TextWriter<W>, strings: TableStrings)
     requires { IsReady W.failures text.old }
-    ensures { Adds W.taken W.failures text.old text.new (items_text true (map string_row (strings_left strings.entry))) }
+    ensures { Adds W.taken W.failures text.old text.new (items_text true (map string_row (entries_left strings.entry))) }
 {
     let mut first = true;
     for string in strings {
@@ -113,13 +113,53 @@ fn write_each_string<W: Sink>(text: &mut TextWriter<W>, strings: VersionStrings)
     }
 }
 
-/// Adds the member that lists the strings in the bytes of version information.
-fn write_strings<W: Sink>(text: &mut TextWriter<W>, bytes: &[u8])
+/// Adds a string table: its key, and its strings.
+fn write_table<W: Sink>(text: &mut TextWriter<W>, table: VersionTable)
     requires { IsReady W.failures text.old }
-    ensures { Adds W.taken W.failures text.old text.new (more (strings_member (strings_of bytes.now))) }
+    ensures { Adds W.taken W.failures text.old text.new (table_row (table_view table.entry)) }
 {
+    text.text(b"{\"key\":");
+    write_units(text, table.key);
     text.text(b",\"strings\":[");
-    write_each_string(text, version_strings(bytes));
+    write_each_string(text, table.strings);
+    text.text(b"]}");
+}
+
+/// Adds a string table, after a comma unless it is the first of the list.
+fn write_next_table<W: Sink>(text: &mut TextWriter<W>, first: bool, table: VersionTable)
+    requires { IsReady W.failures text.old }
+    ensures { Adds W.taken W.failures text.old text.new (items_text first (table_row (table_view table.entry) ∷ [])) }
+{
+    if first {
+        write_table(text, table);
+    } else {
+        text.text(b",");
+        write_table(text, table);
+    }
+}
+
+/// Adds string tables, with a comma between two.
+fn write_each_table<W: Sink>(text: &mut TextWriter<W>, tables: VersionTables)
+    requires { IsReady W.failures text.old }
+    ensures { Adds W.taken W.failures text.old text.new (items_text true (map table_row (tables_left tables.entry))) }
+{
+    let mut first = true;
+    for table in tables {
+        if text.has_failed() {
+            return;
+        }
+        write_next_table(text, first, table);
+        first = false;
+    }
+}
+
+/// Adds the member that lists the string tables in the bytes of version information.
+fn write_tables<W: Sink>(text: &mut TextWriter<W>, bytes: &[u8])
+    requires { IsReady W.failures text.old }
+    ensures { Adds W.taken W.failures text.old text.new (more (tables_member (tables_of bytes.now))) }
+{
+    text.text(b",\"string_tables\":[");
+    write_each_table(text, version_tables(bytes));
     text.text(b"]");
 }
 
@@ -132,7 +172,7 @@ fn write_version_data<W: Sink>(text: &mut TextWriter<W>, bytes: Option<&[u8]>)
         return;
     };
     write_fixed(text, fixed_info(bytes));
-    write_strings(text, bytes);
+    write_tables(text, bytes);
 }
 
 /// Adds the version information, if there is any.

@@ -1,5 +1,5 @@
 use Rattle.json.proofs.Printed.Decimals.{IsNumber-decimal}
-use Rattle.pe_json.proofs.Printed.{read_back}
+use Rattle.pe_json.proofs.ReadBack.{read_back}
 use Rattle.pe_json.proofs.laws.json_is_read_back.Goals as goal
 
 pub returns-clause-number : goal.returns-clause-number

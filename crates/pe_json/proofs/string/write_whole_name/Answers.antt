@@ -1,4 +1,4 @@
-use Rattle.std.proofs.Common.{◌∙◌, ◌≡◌, Bool, true, false, refl}
+use Rattle.std.proofs.Common.{◌≡◌, Bool, true, false, refl}
 use Rattle.std.proofs.lemmas.Str.{is_utf8-from_IsUtf8, IsUtf8-from_is_utf8}
 use Rattle.pe_text.proofs.Adding.{◌then◌}
 use Rattle.pe_json.proofs.string.write_whole_name.Goals.{in-Ok, in-Err}
@@ -11,7 +11,7 @@ false_unless_true false h = refl
 pub returns : goal.returns
 returns g c = elim c.match-from_utf8.branch [
   | in-Ok w ↦
-      let string = rw (w.as_bytes.ensures.value ∙ w.in-Ok.ensures.cases.0) at w.write_string.ensures in
+      let string = rw w.in-Ok.ensures.cases.0 at w.write_string.ensures in
       let quote = rw w.text-is at c.text-2.ensures in
       rw (is_utf8-from_IsUtf8 _ w.in-Ok.ensures.cases.1) (w.text.ensures then string then quote)
   | in-Err w ↦

@@ -1,6 +1,6 @@
 -- One character more.
 use Rattle.std.proofs.Common.{◌∙◌, ◌++◌, ◌∷◌, [], List, ℕ, ap, append_assoc, append-nil, sym, subst}
-use Rattle.json.specs.Print.{escape}
+use Rattle.pe_json.specs.Shown.{shown}
 use Rattle.pe_text.specs.TextWriter.{Adds}
 use Rattle.pe_text.proofs.Adding.{◌then◌}
 use Rattle.pe_version.specs.UnitsLeft.{characters_left}
@@ -25,7 +25,7 @@ loop-character-preserved g c =
       is_finite = tt;
       told = (
         i.0 ++ one,
-        rw (← character_more i.0 one) (i.1 then c.write_character.ensures),
+        rw (← character_more i.0 one) (i.1 then c.write_decoded.ensures),
         append_assoc i.0 one (characters_left c.next.new.self) ∙ ap (λ (rest : List ℕ). i.0 ++ rest) (sym c.in-Some.ensures.steps) ∙ i.2,
       );
     }
@@ -34,4 +34,4 @@ pub returns : goal.returns
 returns g c =
     let i = c.loop-character.invariant.told in
     let all = sym (append-nil i.0) ∙ ap (λ (rest : List ℕ). i.0 ++ rest) (sym c.in-None.ensures.steps.0) ∙ i.2 in
-    subst (λ (cs : List ℕ). Adds g.W.Sink.taken g.W.Sink.failures c.args.text.now c.loop-character.text (escape (utf8_characters cs))) all i.1
+    subst (λ (cs : List ℕ). Adds g.W.Sink.taken g.W.Sink.failures c.args.text.now c.loop-character.text (shown (utf8_characters cs))) all i.1

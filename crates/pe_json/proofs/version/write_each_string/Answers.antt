@@ -1,7 +1,7 @@
 -- One string more.
 use Rattle.std.proofs.Common.{[], ◌∷◌, ◌++◌, true, refl, sym, ap, ◌∙◌, map}
-use Rattle.pe_version.specs.StringsLeft.{string_view, strings_left}
-use Rattle.pe_version.specs.declared.strings.VersionStrings.{VersionStrings}
+use Rattle.pe_version.specs.TablesLeft.{entry_view, entries_left}
+use Rattle.pe_version.specs.declared.tables.TableStrings.{TableStrings}
 use Rattle.pe_json.specs.Listed.{items_text}
 use Rattle.pe_json.specs.VersionRows.{string_row}
 use Rattle.pe_json.proofs.Objects.{also_items, adds_none, items_more, items_none, left-out}
@@ -12,13 +12,13 @@ pub loop-string-init : goal.loop-string-init
 loop-string-init g c = record {
   can_next = tt;
   is_finite = tt;
-  rows = ([], rw items_none (adds_none c.requires), ap (λ (s : VersionStrings). map string_row (strings_left s)) c.into_iter-string-iterator.ensures.into_iter_gives, refl);
+  rows = ([], rw items_none (adds_none c.requires), ap (λ (s : TableStrings). map string_row (entries_left s)) c.into_iter-string-iterator.ensures.into_iter_gives, refl);
 }
 
 pub loop-string-preserved : goal.loop-string-preserved
 loop-string-preserved g c =
     let i = c.loop-string.invariant.rows in
-    let s = string_view c.in-Some.string in
+    let s = entry_view c.in-Some.string in
     record {
       can_next = tt;
       is_finite = tt;
@@ -33,4 +33,4 @@ loop-string-preserved g c =
 pub returns-then-has_failed : goal.returns-then-has_failed
 returns-then-has_failed g c =
     let i = c.loop-string.invariant.rows in
-    left-out _ _ _ _ _ i.1 (c.has_failed.ensures.ends c.if-has_failed.true) (sym (items_more true i.0 (map string_row (strings_left c.loop-string.string-iterator))) ∙ ap (items_text true) i.2)
+    left-out _ _ _ _ _ i.1 (c.has_failed.ensures.ends c.if-has_failed.true) (sym (items_more true i.0 (map string_row (entries_left c.loop-string.string-iterator))) ∙ ap (items_text true) i.2)

@@ -7,5 +7,5 @@ pub returns : goal.returns
 unfolding object with_commas member escape_byte
 returns g c =
     (c.text.ensures then c.write_units.ensures)
-    then ((c.text-2.ensures then c.write_units-2.ensures) then (c.text-3.ensures then c.write_units-3.ensures))
-    then c.text-4.ensures
+    then (c.text-2.ensures then c.write_units-2.ensures)
+    then c.text-3.ensures
