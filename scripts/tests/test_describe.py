@@ -331,7 +331,7 @@ COMMANDS_WRITTEN = [
     ("man/petool.1", "\\fIHEX\\fP \\fIIN\\fP \\fIOUT\\fP", "\\fIIN\\fP \\fIOUT\\fP"),
     ("man/petool.1", "Prints what fault N means", "Prints what a fault means"),
     ("man/petool.1", "Prints each entry of the debug directory.", "Prints debug data."),
-    ("man/petool.1", "\\fBdump\\fP, \\fBobject\\fP, \\fBarchive\\fP, \\fBjson\\fP)", "\\fBdump\\fP, \\fBobject\\fP, \\fBjson\\fP)"),
+    ("man/petool.1", "\\fBresource\\fP, \\fBobject\\fP, \\fBarchive\\fP, \\fBjson\\fP)", "\\fBresource\\fP, \\fBobject\\fP, \\fBjson\\fP)"),
     ("man/petool.1", "\\fBjson\\fP and \\fBsum\\fP process every file", "\\fBjson\\fP process every file"),
     ("man/petool.1", "\\fBarchive\\fP, \\fBsum\\fP, \\fBmap\\fP,", "\\fBarchive\\fP, \\fBmap\\fP,"),
     ("docs/GUIDE.md", "`archive`, `sum`, `map`, `layout` and `rebase` print a fault", "`archive`, `map` and `rebase` print a fault"),

@@ -78,11 +78,11 @@ class LeftOut(unittest.TestCase):
 
     def test_where_nothing_is_missing_all_is_run(self):
         status, said = self.run_test()
-        self.assertEqual((status, said.splitlines()[-1], "left out" in said), (0, "16 passed, 0 failed", False), said)
+        self.assertEqual((status, said.splitlines()[-1], "left out" in said), (0, "17 passed, 0 failed", False), said)
 
     def test_what_may_be_missing_is_run_where_it_is_there(self):
         status, said = self.run_test("--without", "cargo,mypy", "--without", "program")
-        self.assertEqual((status, said.splitlines()[-1]), (0, "16 passed, 0 failed"), said)
+        self.assertEqual((status, said.splitlines()[-1]), (0, "17 passed, 0 failed"), said)
 
     def test_a_program_that_is_not_there(self):
         line = "what compares with the program: left out without program: there is no /none"
@@ -113,13 +113,13 @@ class LeftOut(unittest.TestCase):
         for lack in ("bash", "mypy"):
             with self.subTest(lack=lack):
                 status, said = self.run_test(SKIPS=f"left out without {lack}")
-                self.assertEqual((status, said.splitlines()[-1]), (1, "14 passed, 2 failed"), said)
+                self.assertEqual((status, said.splitlines()[-1]), (1, "15 passed, 2 failed"), said)
                 status, said = self.run_test("--without", lack, SKIPS=f"left out without {lack}")
                 self.assertEqual((status, said.count(f"skipped 'left out without {lack}'")), (0, 2), said)
 
     def test_a_test_in_python_that_is_skipped_for_another_reason(self):
         status, said = self.run_test(SKIPS="it is slow")
-        self.assertEqual((status, said.splitlines()[-1]), (1, "14 passed, 2 failed"), said)
+        self.assertEqual((status, said.splitlines()[-1]), (1, "15 passed, 2 failed"), said)
 
     def test_python_is_wanted(self):
         (self.tools / "python3").unlink()
