@@ -86,21 +86,32 @@ impl<A: Allocator> Position<A> {
     }
 }
 
-/// Where the file at a path is to be, if it is to be in a folder that there is.
-fn position_of<R: Files + Alloc>(rt: &R, target: &str) -> Option<Position<R::A>> {
-    let Ok(Place::Path(path)) = place_of(rt, target) else {
-        return None;
-    };
-    let folder = match path.as_path().parent() {
+/// The folder of a path.
+fn folder_of(path: Path<'_>) -> Path<'_> {
+    match path.parent() {
         Some(folder) if !folder.as_str().is_empty() => folder,
         _ => Path::new("."),
-    };
-    let found = fs::metadata(rt, folder).ok()?;
-    Some(Position {
-        device: found.dev(),
-        node: found.ino(),
-        path,
-    })
+    }
+}
+
+/// The position of a file at a path behind the last link, if its folder is there.
+fn position_at<R: Files + Alloc>(rt: &R, path: PathBuf<R::A>) -> Option<Position<R::A>> {
+    match fs::metadata(rt, folder_of(path.as_path())) {
+        Ok(found) => Some(Position {
+            device: found.dev(),
+            node: found.ino(),
+            path,
+        }),
+        Err(_) => None,
+    }
+}
+
+/// Where the file at a path is to be, if it is to be in a folder that there is.
+fn position_of<R: Files + Alloc>(rt: &R, target: &str) -> Option<Position<R::A>> {
+    match place_of(rt, target) {
+        Ok(Place::Path(path)) => position_at(rt, path),
+        _ => None,
+    }
 }
 
 /// The path of a file of a folder that is to be where another is to be too, by links.
