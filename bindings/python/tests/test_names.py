@@ -97,6 +97,7 @@ class Names(unittest.TestCase):
         for name, _ in TEXTS:
             member = '"file":"%s"' % name.decode().replace("\\", "\\\\").replace('"', '\\"')
             member = member.replace("\n", "\\n").replace("\x1b", "\\u001b")
+            member = re.sub("[\x7f-\x9f\u2028-\u202e\u2066-\u2069\ufeff]", lambda it: f"\\u{ord(it[0]):04x}", member)
             self.assertEqual(self.run_words("json", name)[1].split(",")[1].split(',"accepted')[0], member)
 
     def test_map_quotes_each_name(self):

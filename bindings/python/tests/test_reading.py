@@ -241,9 +241,9 @@ class Reading(unittest.TestCase):
         for path, status in (("/dev/null", 1), ("/dev/zero", 1), ("/dev/full", 1), (str(self.path.parent), 3)):
             for command in COMMANDS:
                 # the files of a set are kept until it is judged
-                status = 4 if command == "map" and path in ("/dev/zero", "/dev/full") else status
+                wanted = 4 if command == "map" and path in ("/dev/zero", "/dev/full") else status
                 with self.subTest(path=path, command=command):
-                    self.assertEqual(self.run_over(words_of(command, path), subprocess.DEVNULL, **limited)[0], status)
+                    self.assertEqual(self.run_over(words_of(command, path), subprocess.DEVNULL, **limited)[0], wanted)
 
     @contextlib.contextmanager
     def while_another(self, changes, pause):
