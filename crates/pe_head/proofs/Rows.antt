@@ -1,7 +1,7 @@
 -- The rows of a section table, as chunks of the file.
-use Rattle.std.proofs.Common.{◌≡◌, ◌∙◌, refl, ℕ, zero, suc, ◌+◌, ◌-◌, ◌*◌, ◌<◌, ◌≤◌, List, get_or, take, drop, ap, arith}
+use Rattle.std.proofs.Common.{◌≡◌, ◌∙◌, refl, ℕ, zero, suc, ◌+◌, ◌-◌, ◌*◌, ◌<◌, ◌≤◌, List, length, length-take, get_or, take, drop, ap, arith}
 use Rattle.std.specs.Simd.{first_chunks}
-use Rattle.std.proofs.lemmas.List.{get_or-take, get_or-drop, drop-drop, drop-take, take-take}
+use Rattle.std.proofs.lemmas.List.{length-drop, get_or-take, get_or-drop, drop-drop, drop-take, take-take}
 use Rattle.pe_view.specs.Number.{num, byte_of, part}
 use Rattle.pe_head.specs.Section.{section_header}
 
@@ -25,6 +25,10 @@ num_in file start len k (suc width) le =
     let next : start + (k + 1) ≡ start + k + 1 = omega arith in
     ap (λ (b : ℕ). b + 256 * num (byte_of (part file start len)) (k + 1) width) (byte_in file start len k (omega (arith, le)))
     ∙ ap (λ (n : ℕ). byte_of file (start + k) + 256 * n) (num_in file start len (k + 1) width (omega (arith, le)) ∙ ap (λ (p : ℕ). num (byte_of file) p width) next)
+
+-- the bytes of a part inside the file are as many as it has
+pub part_len : (file : List ℕ) (start len : ℕ) → start + len ≤ length file → length (part file start len) ≡ len
+part_len file start len le = let rest : length (drop start file) ≡ length file - start = length-drop start file in simp length-take (omega (arith, rest, le))
 
 -- the section header in the part of the file that it is
 header_in_part : (file : List ℕ) (start : ℕ) → section_header (part file start 40) 0 ≡ section_header file start

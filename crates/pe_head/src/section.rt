@@ -1,6 +1,8 @@
 //! `SectionHeader`: a row of the section table, of an image or an object, with its flags and its sizes in image and file.
 
-use crate::fields::{u16_in, u32_in};
+ghost use Rattle.std.specs.Prelude.{◌≡◌, ◌+◌, ◌≤◌};
+ghost use Rattle.pe_view.specs.Number.{num, byte_of};
+
 use pe_view::View;
 
 /// A row of the section table ("PE Format", Section Table). Sizes count bytes.
@@ -72,38 +74,57 @@ pub mod section_flag {
     pub const WRITE: u32 = 0x8000_0000;
 }
 
+/// The number in 2 bytes of a row of a section table.
+#[inline]
+fn u16_in_row(row: &[u8; 40], start: usize) -> u16
+    requires { start + 2 ≤ 40 }
+    ensures { result ≡ num (byte_of row.now) start 2 }
+{
+    u16::from_le_bytes([row[start], row[start + 1]])
+}
+
+/// The number in 4 bytes of a row of a section table.
+#[inline]
+fn u32_in_row(row: &[u8; 40], start: usize) -> u32
+    requires { start + 4 ≤ 40 }
+    ensures { result ≡ num (byte_of row.now) start 4 }
+{
+    u32::from_le_bytes([row[start], row[start + 1], row[start + 2], row[start + 3]])
+}
+
 impl SectionHeader {
-    ghost use Rattle.std.specs.Prelude.{◌≡◌, ◌+◌, ◌≤◌};
     ghost use Rattle.pe_view.specs.View.{bytes_of, size_of};
     ghost use Rattle.pe_head.specs.Section.{extent, rawlen, section_header};
 
     /// The section header at an offset of a file that contains it.
+    #[tactic(auto, using(crate::proofs::Rows::header_in))]
     pub fn read(file: View, start: u64) -> SectionHeader
         requires { start + 40 ≤ size_of file }
         ensures { result ≡ section_header (bytes_of file.entry) start }
     {
-        let mut name = [0; 8];
-        name.copy_from_slice(file.slice(start, 8).unwrap());
-        SectionHeader {
-            name,
-            virtual_size: u32_in(file, start + 8),
-            virtual_address: u32_in(file, start + 12),
-            size_of_raw_data: u32_in(file, start + 16),
-            pointer_to_raw_data: u32_in(file, start + 20),
-            pointer_to_relocations: u32_in(file, start + 24),
-            pointer_to_linenumbers: u32_in(file, start + 28),
-            number_of_relocations: u16_in(file, start + 32),
-            number_of_linenumbers: u16_in(file, start + 34),
-            characteristics: u32_in(file, start + 36),
-        }
+        let row = file.slice(start, 40).unwrap().first_chunk().unwrap();
+        SectionHeader::of_row(row)
     }
 
-    /// The section header that a row of a section table is.
+    /// The section header that a row of a section table is. A caller that needs a few of its fields pays for these alone.
     #[inline]
     pub fn of_row(row: &[u8; 40]) -> SectionHeader
         ensures { result ≡ section_header row.now 0 }
     {
-        SectionHeader::read(View::new(row), 0)
+        let mut name = [0; 8];
+        name.copy_from_slice(&row[..8]);
+        SectionHeader {
+            name,
+            virtual_size: u32_in_row(row, 8),
+            virtual_address: u32_in_row(row, 12),
+            size_of_raw_data: u32_in_row(row, 16),
+            pointer_to_raw_data: u32_in_row(row, 20),
+            pointer_to_relocations: u32_in_row(row, 24),
+            pointer_to_linenumbers: u32_in_row(row, 28),
+            number_of_relocations: u16_in_row(row, 32),
+            number_of_linenumbers: u16_in_row(row, 34),
+            characteristics: u32_in_row(row, 36),
+        }
     }
 
     /// The VirtualAddress in a row of a section table.
@@ -111,7 +132,7 @@ impl SectionHeader {
     pub fn virtual_address_of_row(row: &[u8; 40]) -> u32
         ensures { result ≡ (section_header row.now 0).virtual_address }
     {
-        u32_in(View::new(row), 12)
+        u32_in_row(row, 12)
     }
 
     /// The section's size in the laid-out image: VirtualSize, or SizeOfRawData if VirtualSize is 0.

@@ -1,15 +1,11 @@
 -- Each row is a section header of the file.
-use Rattle.std.proofs.Common.{◌≡◌, ◌∙◌, ◌+◌, ◌*◌, ◌/◌, ◌-◌, ◌≤◌, ℕ, List, length, length-take, get_or, drop, ap, ap₂, arith}
+use Rattle.std.proofs.Common.{◌≡◌, ◌∙◌, ◌+◌, ◌*◌, ◌/◌, ℕ, List, length, get_or, ap, ap₂, arith}
 use Rattle.std.specs.Simd.{first_chunks}
-use Rattle.std.proofs.lemmas.List.{length-drop}
 use Rattle.pe_view.specs.Number.{part}
 use Rattle.pe_view.specs.View.{bytes_of}
 use Rattle.pe_head.specs.Head.{coff_field, table_start}
-use Rattle.pe_head.proofs.Rows.{row_in, header_in}
+use Rattle.pe_head.proofs.Rows.{row_in, header_in, part_len}
 use Rattle.pe_head.proofs.fields.Fields.rows.Goals as goal
-
-part_len : (file : List ℕ) (o n : ℕ) → o + n ≤ length file → length (part file o n) ≡ n
-part_len file o n le = let rest : length (drop o file) ≡ length file - o = length-drop o file in simp length-take (omega (arith, rest, le))
 
 pub returns-clause-sections : goal.returns-clause-sections
 returns-clause-sections c = λ k d lt.
