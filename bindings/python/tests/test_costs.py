@@ -36,7 +36,11 @@ def made(kinds, name, size):
 
 
 @unittest.skipUnless(shutil.which("valgrind"), "left out without valgrind")
-class Costs(unittest.TestCase):
+class Grows(unittest.TestCase):
+    """Tests of what a larger file may cost."""
+
+    counted = staticmethod(counted)
+
     def grows(self, status, count):
         """Counts at both sizes; `status` is that of both."""
         costs = []
@@ -46,6 +50,8 @@ class Costs(unittest.TestCase):
             costs.append(cost)
         self.assertLessEqual(costs[1], MOST * costs[0], costs)
 
+
+class Costs(Grows):
     @unittest.skipUnless(BENCHMARK, "left out without program: PETOOL_BENCHMARK names none")
     def test_an_object_is_written_whatever_its_names(self):
         for name in ("names_colliding", "names_one_end"):
