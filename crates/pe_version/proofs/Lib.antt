@@ -1,5 +1,4 @@
 pub mod Characters
-pub mod Reaching
 pub mod ReachingTables
 pub mod Rows
 pub mod Stepping

@@ -2,8 +2,7 @@
 use Rattle.std.proofs.Common.{◌≡◌, ◌∙◌, refl, ℕ, ◌+◌, ◌-◌, ◌*◌, ◌^◌, ◌<◌, true, false, List, [], ◌∷◌, ◌++◌, ap, sym, arith}
 use Rattle.pe_version.specs.Block.{key_in, value_in, body_of, is_string_file_info}
 use Rattle.pe_version.specs.Blocks.{is_block, block_end, aligned, in_blocks}
-use Rattle.pe_version.specs.Strings.{nothing}
-use Rattle.pe_version.specs.Tables.{Entry, Table, entry_at, table_at, file_tables}
+use Rattle.pe_version.specs.Tables.{nothing, Entry, Table, entry_at, table_at, file_tables}
 use Rattle.pe_version.proofs.Stepping.{step, stop}
 
 -- the blocks after one, as the code has them

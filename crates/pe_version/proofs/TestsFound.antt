@@ -1,5 +1,5 @@
 -- What is found, test by test.
-use Rattle.std.proofs.Common.{◌≡◌, ◌∙◌, refl, ℕ, suc, Bool, true, false, cond, List, [], ◌∷◌, ◌++◌, sym, ap, append_assoc, length, not}
+use Rattle.std.proofs.Common.{◌≡◌, ◌∙◌, refl, ℕ, suc, Bool, true, false, List, [], ◌∷◌, ◌++◌, sym, ap, append_assoc, length, not}
 use Rattle.std.specs.Prelude.{if◌then◌else◌, is_some, Option, Some, None}
 use Rattle.pe_view.specs.Faults.{Test}
 use Rattle.pe_view.specs.declared.fault.Fault.{Fault}

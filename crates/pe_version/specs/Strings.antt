@@ -1,26 +1,17 @@
--- The strings of version information: those of each table of each block StringFileInfo.
-use Rattle.std.specs.Prelude.{ℕ, List, [], ◌∷◌, if◌then◌else◌}
-use Rattle.pe_version.specs.Block.{key_in, value_in, body_of, is_string_file_info}
-use Rattle.pe_version.specs.Blocks.{in_blocks}
-use Rattle.pe_version.specs.Root.{files_at, files_end}
+-- The strings of version information: those of each table, each with the key of its table.
+use Rattle.std.specs.Prelude.{List, ℕ, map, flat_map}
+use Rattle.pe_version.specs.Tables.{Entry, Table, tables_of}
 
 pub record Text : Type 0 where
   pub table : List ℕ  -- the key of its table
   pub key : List ℕ
   pub value : List ℕ
 
--- nothing more at the end of some blocks
-abbrev pub nothing : {X : Type 0} → ℕ → List X
-nothing at = []
+abbrev pub text_in : List ℕ → Entry → Text
+text_in table e = record { table = table; key = e.key; value = e.value }
 
-abbrev pub string_at : List ℕ → List ℕ → ℕ × ℕ → List Text
-string_at bytes table b = record { table = table; key = key_in bytes b; value = value_in bytes b } ∷ []
-
-abbrev pub table_strings : List ℕ → ℕ × ℕ → List Text
-table_strings bytes t = in_blocks (string_at bytes (key_in bytes t)) nothing bytes t.1 (body_of bytes t)
-
-abbrev pub file_strings : List ℕ → ℕ × ℕ → List Text
-file_strings bytes f = if is_string_file_info bytes f then in_blocks (table_strings bytes) nothing bytes f.1 (body_of bytes f) else []
+abbrev pub texts_of : Table → List Text
+texts_of t = map (text_in t.key) t.strings
 
 abbrev pub strings_of : List ℕ → List Text
-strings_of bytes = in_blocks (file_strings bytes) nothing bytes (files_end bytes) (files_at bytes)
+strings_of bytes = flat_map texts_of (tables_of bytes)

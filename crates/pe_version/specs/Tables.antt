@@ -3,7 +3,10 @@ use Rattle.std.specs.Prelude.{ℕ, List, [], ◌∷◌, if◌then◌else◌}
 use Rattle.pe_version.specs.Block.{key_in, value_in, body_of, is_string_file_info}
 use Rattle.pe_version.specs.Blocks.{in_blocks}
 use Rattle.pe_version.specs.Root.{files_at, files_end}
-use Rattle.pe_version.specs.Strings.{nothing}
+
+-- nothing more at the end of some blocks
+abbrev pub nothing : {X : Type 0} → ℕ → List X
+nothing at = []
 
 pub record Entry : Type 0 where
   pub key : List ℕ

@@ -2,8 +2,7 @@
 use Rattle.std.specs.Prelude.{◌≡◌, ℕ, ◌+◌, ◌-◌, ◌*◌, ◌^◌, ◌<◌, Bool, true, false, List, [], ◌++◌}
 use Rattle.pe_view.specs.View.{bytes_of}
 use Rattle.pe_version.specs.Steps.{over}
-use Rattle.pe_version.specs.Strings.{nothing}
-use Rattle.pe_version.specs.Tables.{Entry, Table, entry_at, table_at, file_tables}
+use Rattle.pe_version.specs.Tables.{Entry, Table, nothing, entry_at, table_at, file_tables}
 use Rattle.pe_version.specs.declared.tables.TableString.{TableString}
 use Rattle.pe_version.specs.declared.tables.TableStrings.{TableStrings}
 use Rattle.pe_version.specs.declared.tables.VersionTable.{VersionTable}

@@ -22,6 +22,19 @@ impl<'a> Blocks<'a> {
     ghost use Rattle.pe_version.specs.Blocks.{is_block};
     ghost use Rattle.pe_version.specs.Steps.{StepsTo};
 
+    /// No blocks of these bytes.
+    pub fn none(view: View<'a>) -> Blocks<'a>
+        ensures view { result.view ≡ view.entry }
+        ensures start { result.at ≡ 0 }
+        ensures end { result.end ≡ 0 }
+    {
+        Blocks {
+            view,
+            at: 0,
+            end: 0,
+        }
+    }
+
     /// Whether a whole block is at the offset that was reached.
     pub fn is_block(self) -> bool
         ensures { result ≡ is_block (bytes_of self.entry.view) self.entry.end self.entry.at }

@@ -9,7 +9,7 @@ ghost use Rattle.pe_version.specs.Findings.{finding, end_tests, is_read, level_t
 use crate::block::{Block, word};
 use crate::blocks::Blocks;
 use crate::fixed::fixed_info;
-use crate::strings::files;
+use crate::tables::files;
 use pe_view::{Fault, Place, View};
 use std::alloc::{AllocError, Allocator};
 

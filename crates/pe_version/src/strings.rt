@@ -1,16 +1,10 @@
 //! `version_strings`: the strings of version information.
 
-ghost use Rattle.std.specs.Prelude.{◌≡◌, false};
-ghost use Rattle.pe_view.specs.View.{bytes_of};
-ghost use Rattle.pe_version.specs.Blocks.{is_block};
-ghost use Rattle.pe_version.specs.Root.{files_at, files_end};
+ghost use Rattle.std.specs.Prelude.{◌≡◌};
 ghost use Rattle.pe_version.specs.Strings.{strings_of};
 ghost use Rattle.pe_version.specs.StringsLeft.{strings_left};
 
-use crate::block::{aligned, word};
-use crate::blocks::Blocks;
-use crate::fixed::has_key;
-use pe_view::View;
+use crate::tables::{TableStrings, VersionTables, version_tables};
 
 /// A string of version information. Each part is UTF-16, of two bytes a unit.
 #[derive(Clone, Copy, Debug)]
@@ -27,31 +21,12 @@ pub struct VersionString<'a> {
 /// four times at most.
 #[derive(Clone, Debug, Drop)]
 pub struct VersionStrings<'a> {
-    pub(crate) files: Blocks<'a>,
-    pub(crate) tables: Blocks<'a>,
-    pub(crate) strings: Blocks<'a>,
+    /// The tables after the one that was reached.
+    pub(crate) tables: VersionTables<'a>,
+    /// The key of that table.
     pub(crate) table: &'a [u8],
-}
-
-/// The blocks in the first block of version information.
-pub(crate) fn files<'a>(view: View<'a>) -> Blocks<'a>
-    ensures view { result.view ≡ view.entry }
-    ensures start { result.at ≡ files_at (bytes_of view.entry) }
-    ensures end { result.end ≡ files_end (bytes_of view.entry) }
-{
-    if !has_key(view) {
-        return Blocks {
-            view,
-            at: 0,
-            end: 0,
-        };
-    }
-    let len = u64::from(word(view, 0));
-    Blocks {
-        view,
-        at: aligned(40 + u32::from(word(view, 2))),
-        end: len.min(view.len()) as u32,
-    }
+    /// The strings of that table that are left.
+    pub(crate) strings: TableStrings<'a>,
 }
 
 /// The strings of version information, in its bytes: those of all tables in all blocks `StringFileInfo`. A string whose key no zero
@@ -59,40 +34,10 @@ pub(crate) fn files<'a>(view: View<'a>) -> Blocks<'a>
 pub fn version_strings(bytes: &[u8]) -> VersionStrings<'_>
     ensures { strings_left result ≡ strings_of bytes.entry.now }
 {
-    let view = View::new(bytes);
-    let none = Blocks {
-        view,
-        at: 0,
-        end: 0,
-    };
     VersionStrings {
-        files: files(view),
-        tables: none,
-        strings: none,
+        tables: version_tables(bytes),
         table: &[],
-    }
-}
-
-impl<'a> VersionStrings<'a> {
-    ghost use Rattle.pe_version.specs.StringsLeft.{GoesOn};
-
-    /// Goes to the next table, or to the next block that may hold tables. Whether there was one; if not, nothing is left.
-    fn go_on(&mut self) -> bool
-        requires { is_block (bytes_of self.old.strings.view) self.old.strings.end self.old.strings.at ≡ false }
-        ensures { GoesOn self.old result self.new }
-    {
-        if let Some(table) = self.tables.next() {
-            self.table = table.key();
-            self.strings = table.children();
-            return true;
-        }
-        let Some(file) = self.files.next() else {
-            return false;
-        };
-        if file.is_string_file_info() {
-            self.tables = file.children();
-        }
-        true
+        strings: TableStrings::none(),
     }
 }
 
@@ -107,17 +52,17 @@ impl<'a> Iterator for VersionStrings<'a> {
     ghost remaining = { item_count strings_left };
 
     fn next(&mut self) -> Option<VersionString<'a>> {
-        while !self.strings.is_block() {
-            if !self.go_on() {
-                return None;
+        loop {
+            if let Some(string) = self.strings.next() {
+                return Some(VersionString {
+                    table: self.table,
+                    key: string.key,
+                    value: string.value,
+                });
             }
+            let table = self.tables.next()?;
+            self.table = table.key;
+            self.strings = table.strings;
         }
-        let table = self.table;
-        let block = self.strings.next()?;
-        Some(VersionString {
-            table,
-            key: block.key(),
-            value: block.value(),
-        })
     }
 }

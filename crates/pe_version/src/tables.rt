@@ -3,11 +3,13 @@
 ghost use Rattle.std.specs.Prelude.{◌≡◌, false};
 ghost use Rattle.pe_view.specs.View.{bytes_of};
 ghost use Rattle.pe_version.specs.Blocks.{is_block};
+ghost use Rattle.pe_version.specs.Root.{files_at, files_end};
 ghost use Rattle.pe_version.specs.Tables.{tables_of};
 ghost use Rattle.pe_version.specs.TablesLeft.{tables_left};
 
+use crate::block::{aligned, word};
 use crate::blocks::Blocks;
-use crate::strings::files;
+use crate::fixed::has_key;
 use pe_view::View;
 
 /// A string of a string table. Each part is UTF-16, of two bytes a unit.
@@ -42,6 +44,23 @@ pub struct VersionTables<'a> {
     pub(crate) tables: Blocks<'a>,
 }
 
+/// The blocks in the first block of version information.
+pub(crate) fn files<'a>(view: View<'a>) -> Blocks<'a>
+    ensures view { result.view ≡ view.entry }
+    ensures start { result.at ≡ files_at (bytes_of view.entry) }
+    ensures end { result.end ≡ files_end (bytes_of view.entry) }
+{
+    if !has_key(view) {
+        return Blocks::none(view);
+    }
+    let len = u64::from(word(view, 0));
+    Blocks {
+        view,
+        at: aligned(40 + u32::from(word(view, 2))),
+        end: len.min(view.len()) as u32,
+    }
+}
+
 /// The string tables of version information, in its bytes: those of all blocks `StringFileInfo`. A string whose key no zero ends has no
 /// value. ("VS_VERSIONINFO", StringFileInfo, StringTable, String.)
 pub fn version_tables(bytes: &[u8]) -> VersionTables<'_>
@@ -50,11 +69,21 @@ pub fn version_tables(bytes: &[u8]) -> VersionTables<'_>
     let view = View::new(bytes);
     VersionTables {
         files: files(view),
-        tables: Blocks {
-            view,
-            at: 0,
-            end: 0,
-        },
+        tables: Blocks::none(view),
+    }
+}
+
+impl<'a> TableStrings<'a> {
+    ghost use Rattle.std.specs.Prelude.{[]};
+    ghost use Rattle.pe_version.specs.TablesLeft.{entries_left};
+
+    /// No strings.
+    pub(crate) fn none() -> TableStrings<'a>
+        ensures { entries_left result ≡ [] }
+    {
+        TableStrings {
+            strings: Blocks::none(View::new(&[])),
+        }
     }
 }
 

@@ -3,8 +3,7 @@ use Rattle.std.proofs.Common.{◌≡◌, ◌∙◌, ◌++◌, ℕ, List, true, f
 use Rattle.pe_view.specs.View.{bytes_of}
 use Rattle.pe_version.specs.Block.{body_of, is_string_file_info, place_of}
 use Rattle.pe_version.specs.Blocks.{block_end, in_blocks}
-use Rattle.pe_version.specs.Strings.{nothing}
-use Rattle.pe_version.specs.Tables.{Table, table_at, file_tables}
+use Rattle.pe_version.specs.Tables.{nothing, Table, table_at, file_tables}
 use Rattle.pe_version.proofs.ReachingTables.{of_file, of_no_file, of_later, to_file, to_none, nearer}
 use Rattle.pe_version.proofs.Stepping.{onward}
 use Rattle.pe_version.proofs.tables.VersionTables.go_on.Goals as goal

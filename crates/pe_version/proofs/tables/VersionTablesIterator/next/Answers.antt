@@ -4,8 +4,7 @@ use Rattle.pe_view.specs.View.{bytes_of}
 use Rattle.pe_version.specs.Block.{key_in, body_of, place_of}
 use Rattle.pe_version.specs.Blocks.{block_end, in_blocks}
 use Rattle.pe_version.specs.Steps.{over}
-use Rattle.pe_version.specs.Strings.{nothing}
-use Rattle.pe_version.specs.Tables.{Table, entry_at, table_at, file_tables}
+use Rattle.pe_version.specs.Tables.{nothing, Table, entry_at, table_at, file_tables}
 use Rattle.pe_version.proofs.ReachingTables.{of_later, of_strings, to_table}
 use Rattle.pe_version.proofs.tables.VersionTablesIterator.next.Goals as goal
 
