@@ -55,7 +55,8 @@ fn fault_of(reads: Reads, beginning: &[u8], len: u64) -> Option<Fault> {
     }
 }
 
-/// Reads a file to its end, or until it has more bytes than any may have, and returns how many it has; `count` were read before.
+/// Reads a file to its end, or until it has more bytes than any may have, and returns how many it has, or one more than any may have;
+/// `count` were read before.
 fn read_past<R: Source>(reader: &mut R, count: u64) -> Result<u64, ToolError>
     requires { R.failures reader.old < 2 ^ 64 - 1 }
 {
@@ -68,10 +69,10 @@ fn read_past<R: Source>(reader: &mut R, count: u64) -> Result<u64, ToolError>
             Err(_) => return Err(ToolError::Read),
         }
         if total >= READ_LIMIT as u64 {
-            return Ok(total);
+            break;
         }
     }
-    Ok(total)
+    Ok(total.min(READ_LIMIT as u64))
 }
 
 /// Reads a file to its end, which is known to have `size` bytes or is not, and keeps all of it unless its first bytes refuse it. A
