@@ -211,6 +211,13 @@ class Reading(unittest.TestCase):
                         self.assertIn(f"fault {fault} image 0 file 0x{place:08x}\n", printed.decode())
                         self.assertIn(b"standard input: ", complained)
 
+    def test_of_a_longer_stream_one_byte_more_than_a_file_may_have_is_told(self):
+        with subprocess.Popen(["head", "-c", str((1 << 32) + 9000), "/dev/zero"], stdout=subprocess.PIPE) as zeros:
+            status, printed, _ = self.run_over(["show", "-"], zeros.stdout)
+            zeros.stdout.close()
+        self.assertEqual(status, 1)
+        self.assertIn("4,294,967,297 bytes", printed.decode())
+
     def test_a_file_without_a_size_is_read_whole(self):
         # the system gives the size 0 for it
         status, printed, _ = self.run_over(["check", "/proc/version"], subprocess.DEVNULL)
