@@ -1,8 +1,8 @@
 """What is written for the fields of an image's headers: pe_head's struct and the code that reads it, the fields of the dump, the
 members of JSON, and the places in docs/FORMAT.md.
 
-The definition, crates/pe_head/specs/Head.antt, is not written: it says the places a second time, and the proof of the code that
-reads the fields compares the two.
+The definitions are not written: crates/pe_head/specs/Head.antt says the places a second time, HeaderFields.antt of pe_text the names
+and widths, and Headers.antt of pe_json the members; the proofs of the code compare them.
 """
 
 from typing import List
@@ -134,21 +134,6 @@ def dump_part(description: Description, what: str) -> List[str]:
     return [line for it in _dumped(description, what) for line in _dumped_code(it)]
 
 
-def _dumped_definition(it: Field) -> str:
-    place, value = place_of(it), f"h.{it.name}"
-    if it.dumped:
-        return f"{it.name} {value}"
-    width = "(extended_width h.magic)" if place.is_extended() else str(place.narrow[1])
-    number = f"({it.origin.definition} {value})" if it.origin and it.origin.definition else value
-    return f'field (codes "{format_name(it)}") {width} {number}'
-
-
-def dump_definition_part(description: Description, what: str) -> List[str]:
-    """The same in its definition."""
-    rows = [_dumped_definition(it) for it in _dumped(description, what)]
-    return [rows[0], *(f"∷ {row}" for row in rows[1:]), "∷ []"]
-
-
 #: The groups of the optional header's fields that pe_json writes at once, by their offsets in PE32. Between the first two is
 #: BaseOfData, and after the third a name.
 JSON_GROUPS = {"standard": range(0, 24), "versions": range(28, 52), "sizes": range(52, 70), "last": range(70, 96)}
@@ -185,22 +170,6 @@ def json_part(description: Description, what: str) -> List[str]:
     """The code of a group of pe_json."""
     header = "header" if what == "coff of headers" else "headers"
     return [line for it in _in_json(description, what) for line in _member(it, header)]
-
-
-def _member_definition(it: Field) -> List[str]:
-    """A field as a member of JSON in its definition, and the names of its flags."""
-    value = f"h.{it.name}"
-    if place_of(it).is_extended():
-        return [f'wide (codes "{it.name}") {value}']
-    number = f"({it.origin.definition} {value})" if it.origin and it.origin.definition else value
-    members = [f'number (codes "{it.name}") {number}']
-    return members + ([f'flags_member (codes "{it.name}_flags") {it.flags} {value}'] if it.flags else [])
-
-
-def json_definition_part(description: Description, what: str) -> List[str]:
-    """The same in its definition."""
-    rows = [row for it in _in_json(description, what) for row in _member_definition(it)]
-    return [rows[0], *(f"∷ {row}" for row in rows[1:]), "∷ []"]
 
 
 def _pair(place: Place, is_wide: bool) -> str:

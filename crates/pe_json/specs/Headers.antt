@@ -1,4 +1,5 @@
--- The headers of an image or an object, and the data directories, in a line of JSON.
+-- The headers of an image or an object, and the data directories, in a line of JSON. Names are those of "PE Format" in small letters,
+-- written by hand; the code is written from the description of all records.
 use Rattle.std.specs.Prelude.{ℕ, List, [], ◌∷◌, ◌++◌, codes, Option, None, Some}
 use Rattle.pe_head.specs.Names.{name_in, machine_names, subsystem_names, directory_names}
 use Rattle.pe_head.specs.Optional.{magic_number}
@@ -12,7 +13,6 @@ use Rattle.pe_json.specs.Flags.{flags_member}
 -- ---- the COFF file header
 unfoldable pub coff_numbers : FileHeader → List (List ℕ)
 coff_numbers h =
-    -- from describe/records.txt: coff of headers
     number (codes "number_of_sections") h.number_of_sections
     ∷ number (codes "time_date_stamp") h.time_date_stamp
     ∷ number (codes "pointer_to_symbol_table") h.pointer_to_symbol_table
@@ -21,7 +21,6 @@ coff_numbers h =
     ∷ number (codes "characteristics") h.characteristics
     ∷ flags_member (codes "characteristics_flags") File h.characteristics
     ∷ []
-    -- end of describe/records.txt
 
 abbrev pub coff_members : FileHeader → List (List ℕ)
 coff_members h = number (codes "machine") h.machine ∷ (text_if (codes "machine_name") (name_in machine_names h.machine) ++ coff_numbers h)
@@ -41,7 +40,6 @@ file_header h = record {
 -- ---- the optional header
 unfoldable pub standard_members : Headers → List (List ℕ)
 standard_members h =
-    -- from describe/records.txt: standard of headers
     number (codes "magic") (magic_number h.magic)
     ∷ number (codes "major_linker_version") h.major_linker_version
     ∷ number (codes "minor_linker_version") h.minor_linker_version
@@ -51,7 +49,6 @@ standard_members h =
     ∷ number (codes "address_of_entry_point") h.address_of_entry_point
     ∷ number (codes "base_of_code") h.base_of_code
     ∷ []
-    -- end of describe/records.txt
 
 -- PE32 alone has it
 unfoldable pub base_of_data_members : Option ℕ → List (List ℕ)
@@ -60,7 +57,6 @@ base_of_data_members (Some rva) = number (codes "base_of_data") rva ∷ []
 
 unfoldable pub version_members : Headers → List (List ℕ)
 version_members h =
-    -- from describe/records.txt: versions of headers
     wide (codes "image_base") h.image_base
     ∷ number (codes "section_alignment") h.section_alignment
     ∷ number (codes "file_alignment") h.file_alignment
@@ -71,22 +67,18 @@ version_members h =
     ∷ number (codes "major_subsystem_version") h.major_subsystem_version
     ∷ number (codes "minor_subsystem_version") h.minor_subsystem_version
     ∷ []
-    -- end of describe/records.txt
 
 unfoldable pub size_members : Headers → List (List ℕ)
 size_members h =
-    -- from describe/records.txt: sizes of headers
     number (codes "win32_version_value") h.win32_version_value
     ∷ number (codes "size_of_image") h.size_of_image
     ∷ number (codes "size_of_headers") h.size_of_headers
     ∷ number (codes "check_sum") h.check_sum
     ∷ number (codes "subsystem") h.subsystem
     ∷ []
-    -- end of describe/records.txt
 
 unfoldable pub last_members : Headers → List (List ℕ)
 last_members h =
-    -- from describe/records.txt: last of headers
     number (codes "dll_characteristics") h.dll_characteristics
     ∷ flags_member (codes "dll_characteristics_flags") Dll h.dll_characteristics
     ∷ wide (codes "size_of_stack_reserve") h.size_of_stack_reserve
@@ -96,7 +88,6 @@ last_members h =
     ∷ number (codes "loader_flags") h.loader_flags
     ∷ number (codes "number_of_rva_and_sizes") h.number_of_rva_and_sizes
     ∷ []
-    -- end of describe/records.txt
 
 abbrev pub optional_members : Headers → List (List ℕ)
 optional_members h =

@@ -1,4 +1,5 @@
--- The fields of an image's headers ("PE Format": COFF File Header, Optional Header) as the dump's lines show them.
+-- The fields of an image's headers ("PE Format": COFF File Header, Optional Header) as the dump's lines show them. The list
+-- is written by hand, in the words and widths of the standard; that of the code is written from the description of all records.
 use Rattle.std.specs.Prelude.{ℕ, Option, None, Some, List, [], ◌∷◌, codes}
 use Rattle.pe_head.specs.declared.optional.Magic.{Magic}
 use Rattle.pe_head.specs.declared.headers.Headers.{Headers}
@@ -12,7 +13,6 @@ extended_width = image_base_width
 -- the fields of the COFF header after Machine, in the header's order
 abbrev pub coff_fields : Headers → List Field
 coff_fields h =
-    -- from describe/records.txt: coff of headers
     field (codes "NumberOfSections") 2 h.number_of_sections
     ∷ time_date_stamp h.time_date_stamp
     ∷ field (codes "PointerToSymbolTable") 4 h.pointer_to_symbol_table
@@ -20,12 +20,10 @@ coff_fields h =
     ∷ field (codes "SizeOfOptionalHeader") 2 h.size_of_optional_header
     ∷ characteristics h.characteristics
     ∷ []
-    -- end of describe/records.txt
 
 -- the standard fields of the optional header
 abbrev pub standard_fields : Headers → List Field
 standard_fields h =
-    -- from describe/records.txt: standard of headers
     field (codes "Magic") 2 (magic_number h.magic)
     ∷ field (codes "MajorLinkerVersion") 1 h.major_linker_version
     ∷ field (codes "MinorLinkerVersion") 1 h.minor_linker_version
@@ -35,7 +33,6 @@ standard_fields h =
     ∷ field (codes "AddressOfEntryPoint") 4 h.address_of_entry_point
     ∷ field (codes "BaseOfCode") 4 h.base_of_code
     ∷ []
-    -- end of describe/records.txt
 
 -- the standard field that only PE32 has
 abbrev pub base_of_data_fields : Option ℕ → List Field
@@ -45,7 +42,6 @@ base_of_data_fields (Some base) = field (codes "BaseOfData") 4 base ∷ []
 -- the Windows-specific fields of the optional header
 abbrev pub windows_fields : Headers → List Field
 windows_fields h =
-    -- from describe/records.txt: windows of headers
     field (codes "ImageBase") (extended_width h.magic) h.image_base
     ∷ field (codes "SectionAlignment") 4 h.section_alignment
     ∷ field (codes "FileAlignment") 4 h.file_alignment
@@ -68,4 +64,3 @@ windows_fields h =
     ∷ field (codes "LoaderFlags") 4 h.loader_flags
     ∷ field (codes "NumberOfRvaAndSizes") 4 h.number_of_rva_and_sizes
     ∷ []
-    -- end of describe/records.txt
