@@ -2,7 +2,7 @@
 """Compares pages with what they describe, and prints what differs: docs_check.py
 
 - PROVED.md: the public functions that have conditions, and the tests that it names; TESTS.md: the tests that it names
-- MAP.md: each file and each proof by hand that it names is there (its crates, and FILES.md, are compared by file_rows.py)
+- MAP.md: each file and each proof by hand that it names is there (its crates are compared by file_rows.py)
 - MAP.md: how many files a new table takes, by table_files.py
 - GUIDE.md and petool(1): the commands, options and arguments of the program that PETOOL_PROGRAM names, and README.md, which may
   leave out options; without that program this is left out

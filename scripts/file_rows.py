@@ -1,11 +1,11 @@
 #!/usr/bin/env python3
-"""Writes docs/FILES.md, a row for each folder of sources, the crates in docs/MAP.md and the laws in docs/PROVED.md.
+"""Writes the crates in docs/MAP.md, the laws in docs/PROVED.md and the wrong bodies in docs/TESTS.md.
 
-file_rows.py [--check | --whole]. A row has the names of the folder's files. That of a crate has what its first page says, and what
-it names in crates.txt; a law has its comment. With --whole nothing is written, and a row is printed for each source, with the
-comment that it begins with and the names that it declares for other files. With --check nothing is written: each source must begin
-with such a comment, a crate must name each library of its line in crates.txt, and the three pages are compared with what would be
-written; the last line is 'N passed, M failed', and the status is 1 if something is wrong.
+file_rows.py [--check | --whole]. The row of a crate has what its first page says, and what it names in crates.txt; a law has its
+comment; the wrong bodies of a crate have the names of their files. With --whole nothing is written, and a row is printed for each
+source, with the comment that it begins with and the names that it declares for other files. With --check nothing is written: each
+source must begin with such a comment, a crate must name each library of its line in crates.txt, and the three pages are compared with
+what would be written; the last line is 'N passed, M failed', and the status is 1 if something is wrong.
 """
 
 import ast
@@ -19,17 +19,14 @@ sys.dont_write_bytecode = True
 from crates_svg import all_named, crates_below, direct, level
 
 TOP = pathlib.Path(__file__).resolve().parents[1]
-PAGE, MAP, PROVED = "docs/FILES.md", "docs/MAP.md", "docs/PROVED.md"
+MAP, PROVED, TESTS = "docs/MAP.md", "docs/PROVED.md", "docs/TESTS.md"
 #: A law with its comment, and any public function.
 LAW = re.compile(r"((?:^/// .*\n)+)pub fn (\w+)", re.M)
 FUNCTION = re.compile(r"^pub fn (\w+)", re.M)
 #: What begins the lines of a file's first comment, by its ending.
 MARKS = {".rt": "//!", ".rs": "//!", ".antt": "--"}
-#: The folders of a crate's wrong bodies, and what they are.
-EDITS = {
-    "must-fail": "wrong bodies that the prover refuses",
-    "wrong": "wrong bodies that the prover refuses, which `bindings/test` tries",
-}
+#: The folders of a crate's wrong bodies: those that `rt ci` tries, and those that bindings/test tries.
+EDITS = ("must-fail", "wrong")
 #: The sources outside the crates: their folders, and their endings. The folders in MADE have none.
 OTHERS = ("bindings", "describe", "scripts")
 ENDINGS = {".c", ".h", ".py", ".rs"}
@@ -42,12 +39,6 @@ PUBLIC = {
 OWN = re.compile(r"^pub\(\w+\) (?:fn|struct|enum|trait|type|const|static) (\w+)", re.M)
 #: The pages of crates, whose first comments are below headings, and the lists of modules.
 WITHOUT_ROW = {"lib.rt", "main.rt", "Lib.antt"}
-HEAD = """# Files
-
-The folders of the crates, the bindings and the scripts, with the sources in each. Each crate comes after those that it uses; the sentence below its name is the first of its `lib.rt` or `main.rt`. [MAP.md](MAP.md) says what each folder of a crate holds, and how the files work together.
-
-Each source begins with a comment that says what it holds: `scripts/file_rows.py --whole` prints a row for each, with this comment and the names that the source declares, those for the crate's own use in parentheses. `scripts/file_rows.py` writes this page.
-"""
 
 
 def unlinked(text):
@@ -107,21 +98,6 @@ def edits_of(crate, folder):
     return sorted((TOP / "crates" / crate / folder).glob("*.edit"))
 
 
-def folder_rows(paths):
-    """A row for each folder of these files, with their names."""
-    names = {}
-    for path in paths:
-        names.setdefault(path.parent.relative_to(TOP), []).append(f"`{path.name}`")
-    for folder, told in names.items():
-        shown = pathlib.PurePath(*folder.parts[2:]) if folder.parts[0] == "crates" else folder
-        yield f"| [{shown}](../{folder}) | {', '.join(told)} |"
-
-
-def count_row(crate, folder, files, what):
-    """The row that says how many files a folder of a crate has, if it has any."""
-    return [f"| [{folder}](../crates/{crate}/{folder}) | {what}: {len(files)} |"] if files else []
-
-
 def crates():
     """The crates, each after those that it uses."""
     below = crates_below()
@@ -179,25 +155,19 @@ def filled(path, name, lines):
     return region.sub(lambda _: "".join(f"{line}\n" for line in lines), text)
 
 
-def crate_part(crate):
-    """The heading of a crate, the first paragraph of its page, and a row for each of its folders."""
-    yield from ("", f"## {crate}", "", purpose(crate))
-    rows = [
-        *folder_rows(files_of(crate)),
-        *count_row(crate, "proofs", lemmas_of(crate), "modules of lemmas"),
-        *(it for folder, what in EDITS.items() for it in count_row(crate, folder, edits_of(crate, folder), what)),
-    ]
-    if rows:
-        yield from ("", "| Folder | Files |", "|---|---|", *rows)
+def planted(crate, folder):
+    """What the wrong bodies in a folder of a crate plant, as their names say."""
+    return "; ".join(path.stem.replace("_", " ") for path in edits_of(crate, folder))
 
 
-def other_part(folder):
-    yield from ("", f"## {folder}/", "", "| Folder | Files |", "|---|---|", *folder_rows(others(folder)))
-
-
-def page():
-    parts = [*map(crate_part, crates()), *map(other_part, OTHERS)]
-    return HEAD + "".join(f"{line}\n" for part in parts for line in part)
+def edit_lines():
+    """How many wrong bodies there are, and those of each crate."""
+    counts = [sum(len(edits_of(crate, folder)) for crate in crates()) for folder in EDITS]
+    having = [crate for crate in crates() if any(edits_of(crate, folder) for folder in EDITS)]
+    yield f"There are {sum(counts)} in {len(having)} crates; `rt ci` tries {counts[0]}, and `bindings/test` {counts[1]}."
+    yield from ("", "| Crate | `rt ci` tries | `bindings/test` tries |", "|---|---|---|")
+    for crate in having:
+        yield f"| `{crate}` | {' | '.join(planted(crate, folder) for folder in EDITS)} |"
 
 
 def whole():
@@ -209,9 +179,9 @@ def whole():
 
 #: How each page is written.
 PAGES = {
-    PAGE: page,
     MAP: lambda: filled(MAP, "crates.txt", crate_rows()),
     PROVED: lambda: filled(PROVED, "the laws of the crates", law_lines()),
+    TESTS: lambda: filled(TESTS, "the wrong bodies of the crates", edit_lines()),
 }
 
 

@@ -23,7 +23,7 @@ FILE = re.compile(r"`([^`]+)`(\\\*)?")
 WRITTEN = re.compile(r"^.*\bfrom (?:describe/|the laws of).*$(?s:.*?)^.*\bend of (?:describe/|the laws of).*$", re.M)
 TABLE = re.compile(r"^static (?:RULES|FINDING_RULES|EXPLAINED|FINDINGS_EXPLAINED)\b(?s:.*?)^\];$", re.M)
 #: Files that are written whole, and proofs.
-WHOLE = re.compile(r"docs/(FILES\.md|crates\.svg)|bindings/c/(layout\.c|petool\.map)|.*\.symbols|.*/tests/layout\.rs|crates/\w+/proofs/.*")
+WHOLE = re.compile(r"docs/crates\.svg|bindings/c/(layout\.c|petool\.map)|.*\.symbols|.*/tests/layout\.rs|crates/\w+/proofs/.*")
 
 
 def rows(text):

@@ -12,6 +12,7 @@ FILES = {
     "crates.txt": "high: low bytes\nlow: bytes\n",
     "docs/MAP.md": "# Map\n\n<!-- from crates.txt -->\n<!-- end of crates.txt -->\nMore.\n",
     "docs/PROVED.md": "# Proved\n\n<!-- from the laws of the crates -->\n<!-- end of the laws of the crates -->\n",
+    "docs/TESTS.md": "# Tests\n\n<!-- from the wrong bodies of the crates -->\n<!-- end of the wrong bodies of the crates -->\n",
     "crates/low/src/laws.rt": "//! Laws.\n\n/// [`Bytes`](crate::Bytes)\n/// last.\npub fn bytes_last()\n{}\n",
     "crates/low/src/lib.rt": "//! Bytes of\n//! a file.\n//!\n//! More.\n\nmod view;\npub use view::View;\n",
     "crates/low/src/view/first.rt": "//! The first byte.\n",
@@ -40,31 +41,6 @@ ROWS = [
     "| bindings/c/calls.c | Each call. |  |",
     "| bindings/c/calls.h | What is shared. |  |",
 ]
-FOLDERS = """
-## low
-
-Bytes of a file.
-
-| Folder | Files |
-|---|---|
-| [src](../crates/low/src) | `laws.rt`, `view.rt` |
-| [src/view](../crates/low/src/view) | `first.rt` |
-| [specs](../crates/low/specs) | `View.antt` |
-| [proofs](../crates/low/proofs) | modules of lemmas: 1 |
-| [must-fail](../crates/low/must-fail) | wrong bodies that the prover refuses: 2 |
-| [wrong](../crates/low/wrong) | wrong bodies that the prover refuses, which `bindings/test` tries: 1 |
-
-## high
-
-The program.
-
-## bindings/
-
-| Folder | Files |
-|---|---|
-| [bindings/c](../bindings/c) | `calls.c`, `calls.h` |
-| [bindings/rust/src](../bindings/rust/src) | `lib.rs` |
-"""
 CRATES = """<!-- from crates.txt -->
 | Crate | What it is for | Uses | Ported crates |
 |---|---|---|---|
@@ -80,7 +56,15 @@ Of `low`:
 
 <!-- end of the laws of the crates -->
 """
-WHOLE = "docs/FILES.md: it is not what scripts/file_rows.py writes"
+EDITS = """<!-- from the wrong bodies of the crates -->
+There are 3 in 1 crates; `rt ci` tries 2, and `bindings/test` 1.
+
+| Crate | `rt ci` tries | `bindings/test` tries |
+|---|---|---|
+| `low` | a byte is lost; bytes go last | a byte is added |
+<!-- end of the wrong bodies of the crates -->
+"""
+TESTS = "docs/TESTS.md: it is not what scripts/file_rows.py writes"
 MAP = "docs/MAP.md: it is not what scripts/file_rows.py writes"
 PROVED = "docs/PROVED.md: it is not what scripts/file_rows.py writes"
 #: The changes: the file, its new contents, or none if it is removed, and what is then printed.
@@ -88,19 +72,15 @@ CHANGES = [
     (VIEW, "pub struct View {}\n", f"{VIEW}: no first line says what the file holds"),
     (SPEC, "use X\n", f"{SPEC}: no first line says what the file holds"),
     (LEMMAS, "use X\n", f"{LEMMAS}: no first line says what the file holds"),
-    ("crates/low/src/more.rt", "//! More.\n", WHOLE),
-    ("crates/low/specs/More.antt", "-- More.\n", WHOLE),
-    ("scripts/more.py", '"""More."""\n', WHOLE),
     ("scripts/more.py", "import sys\n", "scripts/more.py: no first line says what the file holds"),
     ("bindings/c/calls.c", "int x;\n", "bindings/c/calls.c: no first line says what the file holds"),
-    ("bindings/rust/src/more.rs", "//! No call.\n", WHOLE),
-    ("crates/low/proofs/More.antt", "-- More.\n", WHOLE),
-    (VIEW, None, WHOLE),
-    ("crates/low/must-fail/bytes_go_last.edit", None, WHOLE),
-    ("crates/low/must-fail/bytes_go_first.edit", "", WHOLE),
-    ("crates/low/wrong/bytes_go_first.edit", "", WHOLE),
-    ("crates/low/src/lib.rt", "//! Other.\n", WHOLE),
-    ("crates.txt", "high: bytes\nlow: high\n", WHOLE),
+    ("bindings/rust/src/more.rs", "use x;\n", "bindings/rust/src/more.rs: no first line says what the file holds"),
+    ("crates/low/proofs/More.antt", "use X\n", "crates/low/proofs/More.antt: no first line says what the file holds"),
+    ("crates/low/must-fail/bytes_go_last.edit", None, TESTS),
+    ("crates/low/must-fail/bytes_go_first.edit", "", TESTS),
+    ("crates/low/wrong/bytes_go_first.edit", "", TESTS),
+    ("docs/TESTS.md", EDITS.replace("bytes go last", "bytes go first"), TESTS),
+    ("docs/TESTS.md", "# Tests\n", "docs/TESTS.md: it cannot be written: there are no two comments with the wrong bodies of the crates"),
     ("crates.txt", "high: low\nlow: bytes\n", MAP),
     ("crates/high/src/main.rt", "//! The program.\n\nuse bytes::Bytes;\nuse lows::View;\n", "crates.txt: high does not name low"),
     ("crates/low/src/lib.rt", "//! Other.\n", MAP),
@@ -133,27 +113,25 @@ class Rows(unittest.TestCase):
         ran = subprocess.run(command, stdout=subprocess.PIPE, stderr=subprocess.STDOUT, text=True)
         return ran.returncode, ran.stdout
 
-    def page(self):
-        return (self.top / "docs/FILES.md").read_text()
-
-    def test_folders_have_the_names_of_their_files(self):
-        self.assertIn(FOLDERS, self.page())
+    def pages(self):
+        return [(self.top / "docs" / name).read_text() for name in ("MAP.md", "PROVED.md", "TESTS.md")]
 
     def test_rows_have_first_comments_and_names(self):
-        before = self.page()
+        before = self.pages()
         status, output = self.run_script("--whole")
-        self.assertEqual((status, self.page()), (0, before))
+        self.assertEqual((status, self.pages()), (0, before))
         for row in ROWS:
             self.assertIn(row, output.splitlines())
 
-    def test_pages_have_the_crates_and_the_laws(self):
+    def test_pages_have_the_crates_the_laws_and_the_wrong_bodies(self):
         self.assertEqual((self.top / "docs/MAP.md").read_text(), f"# Map\n\n{CRATES}More.\n")
         self.assertEqual((self.top / "docs/PROVED.md").read_text(), f"# Proved\n\n{LAWS}")
+        self.assertEqual((self.top / "docs/TESTS.md").read_text(), f"# Tests\n\n{EDITS}")
 
     def test_another_word_writes_nothing(self):
-        (self.top / "docs/FILES.md").write_text("old\n")
+        (self.top / "docs/TESTS.md").write_text("old\n")
         status, output = self.run_script("--rows")
-        self.assertEqual((status, output[:6], self.page()), (2, "usage:", "old\n"))
+        self.assertEqual((status, output[:6], self.pages()[-1]), (2, "usage:", "old\n"))
 
     def test_a_page_that_was_just_written_passes(self):
         self.assertEqual(self.run_script("--check"), (0, "16 passed, 0 failed\n"))
@@ -171,9 +149,9 @@ class Rows(unittest.TestCase):
         self.assertEqual(self.run_script("--check")[0], 0)
 
     def test_a_row_too_many_is_said(self):
-        (self.top / "docs/FILES.md").write_text(self.page() + "| [gone](../gone) | `gone.py` |\n")
+        self.put("docs/TESTS.md", self.pages()[-1].replace("<!-- end", "| `gone` | a byte is gone |  |\n<!-- end"))
         status, output = self.run_script("--check")
-        self.assertEqual((status, output), (1, f"{WHOLE}\n15 passed, 1 failed\n"))
+        self.assertEqual((status, output), (1, f"{TESTS}\n15 passed, 1 failed\n"))
 
 
 if __name__ == "__main__":
