@@ -135,15 +135,17 @@ OBJECTS = [
     ("o1.obj 0xa6=03", "the size is 3", {"size": 3}),
     ("o1.obj 0xa6=1a", "26 bytes at 0xa6, and the file has 191", {"size": 26, "offset": 0xA6, "file_size": 191}),
     ("o1.obj 0x86=19", "the offset is 25, and the table has 25 bytes", {"offset": 25, "size": 25}),
+    # a symbol table that begins in the section table
+    ("o1.obj 0x8=28 0xc=07 0x24=00 0x28=00", "the offset is 66, and the table has 25 bytes", {"offset": 66, "size": 25}),
     ("o1.obj 0x5d=05", "it has 5, and the table has 4 records left", {"count": 5, "left": 4}),
     ("o1.obj 0xa5=02", "it has 2, and the table has 0 records left", {"count": 2, "left": 0}),
     ("o1.obj 0x7c=02", "it is 2, and there are 1", {"index": 2, "count": 1}),
     ("o1.obj 0x46=07", "it is 7, and there are 5", {"index": 7, "count": 5}),
 ]
 
-#: Files whose fault has no numbers: 3, 5, 6, 62 and 65.
+#: Files whose fault has no numbers: 3, 5, 6, 62, 65, and 69 of a section.
 BARE = ["v1.dll 0x0=4c", "v1.dll 0x41=44", "v1.dll 0x58=0a02"]
-BARE_OBJECTS = ["o1.obj 0x0=0000ffff", "o1.obj 0x3b=61 0x34=ffff"]
+BARE_OBJECTS = ["o1.obj 0x0=0000ffff", "o1.obj 0x3b=61 0x34=ffff", "o1.obj 0x15=3939"]
 
 #: How archives begin, of which `show` and `json` tell more.
 ARCHIVES = (b"!<arch>\n", b"!<thin>\n")

@@ -1,3 +1,4 @@
+pub mod AlignmentRows
 pub mod BigRows
 pub mod Digits
 pub mod EitherFile

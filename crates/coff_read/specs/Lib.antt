@@ -2,6 +2,7 @@ pub use Rattle.pe_view.specs.Faults
 pub use Rattle.pe_view.specs.Number
 pub use Rattle.pe_view.specs.Text
 pub use Rattle.pe_view.specs.View
+pub mod Alignment
 pub mod Auxiliary
 pub mod AuxiliaryView
 pub mod BigAuxiliary

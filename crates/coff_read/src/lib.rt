@@ -16,6 +16,7 @@
 //! too: [`has_bad_part`], [`has_bad_item`], [`is_other_header`], [`is_long`] and [`is_long_section_name`].
 #![tactic(auto)]
 
+mod alignment;
 mod auxiliary;
 mod big_auxiliary;
 mod big_file;
@@ -51,6 +52,7 @@ mod type_names;
 mod wide_symbol;
 mod widths;
 
+pub use alignment::section_alignment;
 pub use auxiliary::Aux;
 pub use big_auxiliary::BigAux;
 pub use big_file::BigObjectFile;

@@ -1,6 +1,6 @@
 -- The numbers of faults of objects, by the definitions, as examples. The bytes of a record differ from each other, so that each
 -- field, its width and its order tell apart ("PE Format", COFF File Header, Section Table, COFF Symbol Table, COFF Relocations).
-use Rattle.std.proofs.Common.{◌≡◌, ℕ, ◌++◌, List, [], ◌∷◌, Option, Some, None, take, refl}
+use Rattle.std.proofs.Common.{◌≡◌, ℕ, ◌++◌, List, [], ◌∷◌, Option, Some, None, drop, take, refl}
 use Rattle.std.specs.List.{range_with_len}
 use Rattle.pe_head.specs.declared.detail.FaultDetail.TheVariants.{PastFile}
 use Rattle.coff_read.specs.Field.{field}
@@ -20,10 +20,18 @@ symbols =
     0x64 ∷ 0x86 ∷ 0 ∷ 0 ∷ 0 ∷ 0 ∷ 0 ∷ 0 ∷ 20 ∷ 0 ∷ 0 ∷ 0 ∷ 3 ∷ 0 ∷ 0 ∷ 0 ∷ 0 ∷ 0 ∷ 0 ∷ 0 ∷ []
     ++ (range_with_len 21 54 ++ (25 ∷ 0 ∷ 0 ∷ 0 ∷ []))
 
+-- the same, with zeros in the first half of the name of the second symbol
+abbrev named : List ℕ
+named = take 38 symbols ++ (0 ∷ 0 ∷ 0 ∷ 0 ∷ [] ++ drop 42 symbols)
+
 -- 120 bytes: 2 sections after an optional header of 8 bytes, and the symbol table at no offset
 abbrev no_symbols : List ℕ
 no_symbols =
     0x64 ∷ 0x86 ∷ 2 ∷ 0 ∷ 0 ∷ 0 ∷ 0 ∷ 0 ∷ 0 ∷ 0 ∷ 0 ∷ 0 ∷ 3 ∷ 0 ∷ 0 ∷ 0 ∷ 8 ∷ 0 ∷ 0 ∷ 0 ∷ [] ++ range_with_len 21 100
+
+-- the same, with zeros at 30
+abbrev in_sections : List ℕ
+in_sections = take 30 no_symbols ++ (0 ∷ 0 ∷ 0 ∷ 0 ∷ [] ++ drop 34 no_symbols)
 
 -- faults of a file of 1,000 bytes that begins with these
 abbrev detail_of : List ℕ → ℕ → ℕ → Option Detail
@@ -66,19 +74,29 @@ strings_past : detail_of claims 68 56 ≡ Some (Head (PastFile 0x3c3b3a39 56 100
 unfolding field
 strings_past = refl
 
--- the second half of a symbol's name is its offset, which is compared with the size of the string table
-name_of_a_symbol : detail_of symbols 69 38 ≡ Some (NameOffset 0x2e2d2c2b 25)
+-- of a symbol's name whose first half is 0 the second is its offset, which is compared with the size of the string table
+name_of_a_symbol : detail_of named 69 38 ≡ Some (NameOffset 0x2e2d2c2b 25)
 unfolding field
 name_of_a_symbol = refl
 
--- a section header has none, and after the headers symbols have; without a symbol table that of strings is empty
-name_of_a_section : detail_of no_symbols 69 107 ≡ None
+-- also in the section table; without a symbol table that of strings is empty
+name_in_sections : detail_of in_sections 69 30 ≡ Some (NameOffset 0x26252423 0)
+unfolding field
+name_in_sections = refl
+
+-- the name of a section that tells an offset begins with no zero byte
+name_of_a_section : detail_of no_symbols 69 28 ≡ None
 unfolding field
 name_of_a_section = refl
 
-name_after_sections : detail_of no_symbols 69 108 ≡ Some (NameOffset 0x74737271 0)
+name_of_one_byte : detail_of named 69 37 ≡ None
 unfolding field
-name_after_sections = refl
+name_of_one_byte = refl
+
+-- a record that the file does not hold
+name_cut : detail_of (take 45 named) 69 38 ≡ None
+unfolding field
+name_cut = refl
 
 -- the last byte of a symbol counts its auxiliary records, and after the first of 3 symbols 2 are left
 auxiliary_of_first : detail_of symbols 70 20 ≡ Some (Auxiliary 38 2)

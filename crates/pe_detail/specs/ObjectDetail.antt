@@ -3,7 +3,7 @@ use Rattle.std.specs.Prelude.{ℕ, ◌+◌, ◌-◌, ◌*◌, ◌/◌, ◌==◌,
 use Rattle.pe_head.specs.declared.detail.FaultDetail.TheVariants.{PastFile}
 use Rattle.coff_read.specs.Field.{field}
 use Rattle.coff_read.specs.EitherObject.{form_in}
-use Rattle.coff_read.specs.FormReading.{section_start, symbol_pointer, record_count, strings_size}
+use Rattle.coff_read.specs.FormReading.{symbol_pointer, record_count, strings_size}
 use Rattle.coff_read.specs.Forms.{Form, header_len, sections_at, symbols_at, records_at, number_width, symbol_len, aux_at, section_count}
 use Rattle.pe_detail.specs.declared.detail.Detail.{Detail}
 use Rattle.pe_detail.specs.declared.detail.Detail.TheVariants.{Head, Index, TableSize, NameOffset, Auxiliary}
@@ -45,11 +45,12 @@ strings_detail_of size at (Some stated) = if nat_lt stated 4 then TableSize stat
 abbrev pub strings_detail : List ℕ → ℕ → ℕ → Detail
 strings_detail file size at = strings_detail_of size at (field_in file at 0 4)
 
--- fault 69 of the symbol whose record is at a file offset
+-- fault 69 of the symbol whose record is at a file offset, also in the section table: its first four bytes are 0, unlike those of a
+-- section's name that tells an offset
 abbrev pub name_detail : Form → List ℕ → ℕ → Option Detail
 name_detail big file at =
-    if nat_lt at (section_start big file (section_count big file)) then None
-    else option_map (λ offset. NameOffset offset (strings_size big file)) (field_in file at 4 4)
+    if field file at 0 4 == 0 then option_map (λ offset. NameOffset offset (strings_size big file)) (field_in file at 4 4)
+    else None
 
 -- fault 70 of the symbol whose record is at a file offset
 abbrev pub auxiliary_detail : Form → List ℕ → ℕ → Option Detail

@@ -4,7 +4,7 @@ ghost use Rattle.std.specs.Prelude.{◌≡◌, ◌≤◌, ◌<◌, ◌^◌, IfSo
 ghost use Rattle.pe_view.specs.View.{bytes_of, size_of};
 ghost use Rattle.coff_read.specs.EitherObject.{form_in};
 ghost use Rattle.coff_read.specs.Field.{field};
-ghost use Rattle.coff_read.specs.FormReading.{section_start, symbol_pointer, record_count, strings_size};
+ghost use Rattle.coff_read.specs.FormReading.{symbol_pointer, record_count, strings_size};
 ghost use Rattle.coff_read.specs.Forms.{header_len, sections_at, symbols_at, records_at, number_width, symbol_len, aux_at, section_count};
 ghost use Rattle.pe_detail.specs.ObjectDetail.{field_in, past_file, section_table, section_table_detail, raw_detail, relocations_detail, symbols_detail, strings_detail, name_detail, auxiliary_detail, section_number_detail, symbol_index_detail, record_detail, detail_in_form, object_detail};
 
@@ -218,21 +218,12 @@ fn strings_size<const BIG: bool>(view: View) -> u64
     u32_in(view, start, 0).unwrap_or(0)
 }
 
-/// Where the section headers of an object end.
-fn section_table_end<const BIG: bool>(view: View) -> u64
-    requires { header_len BIG ≤ size_of view }
-    ensures { result ≡ section_start BIG (bytes_of view.entry) (section_count BIG (bytes_of view.entry)) }
-{
-    let table = section_table::<BIG>(view).unwrap();
-    table + SECTION_LEN * section_count::<BIG>(view)
-}
-
-/// The numbers of fault 69 of a symbol.
+/// The numbers of fault 69 of a symbol, whose first four bytes are 0, unlike those of a section's name that tells an offset.
 fn name_detail<const BIG: bool>(view: View, at: u64) -> Option<Detail>
     requires { header_len BIG ≤ size_of view }
     ensures { result ≡ name_detail BIG (bytes_of view.entry) at }
 {
-    if at < section_table_end::<BIG>(view) {
+    if u32_in(view, at, 0)? != 0 {
         return None;
     }
     let offset = u32_in(view, at, 4)?;

@@ -7,6 +7,7 @@ use Rattle.pe_head.specs.declared.directory.Directory.{Directory}
 use Rattle.pe_head.specs.declared.headers.Headers.{Headers}
 use Rattle.pe_head.specs.declared.optional.Magic.TheVariants.{Pe32}
 use Rattle.pe_head.specs.declared.section.SectionHeader.{SectionHeader}
+use Rattle.pe_trust.specs.CertificateTable.{certificate_table}
 use Rattle.pe_trust.specs.CertificateTests.{shares, stop_of}
 use Rattle.pe_trust.specs.Overlay.{sections_end}
 use Rattle.pe_trust.specs.SignedBytes.{ascending_with, authenticode_bytes, is_gapless}
@@ -104,6 +105,22 @@ row_table_next = refl
 -- no table
 row_unsigned : authenticode_bytes (file 192) (headers 160 (five 3 0) two) ≡ Some (range_with_len 0 88 ++ (range_with_len 92 60 ++ range_with_len 160 32))
 row_unsigned = refl
+
+-- a size at the offset 0, which is no table, and an offset without a size
+row_absent : authenticode_bytes (file 192) (headers 160 (five 0 8) two) ≡ Some (range_with_len 0 88 ++ (range_with_len 92 60 ++ range_with_len 160 32))
+row_absent = refl
+
+row_no_offset : certificate_table (headers 160 (five 0 8) two) ≡ None
+row_no_offset = refl
+
+row_no_size : certificate_table (headers 160 (five 8 0) two) ≡ None
+row_no_size = refl
+
+row_present : certificate_table (headers 160 (five 184 8) two) ≡ Some (record { rva = 184; size = 8 })
+row_present = refl
+
+row_four_only : certificate_table (headers 152 (replicate 4 (record { rva = 184; size = 8 })) two) ≡ None
+row_four_only = refl
 
 -- no entry of directory 4, and headers of 152 bytes
 row_four : authenticode_bytes (file 168) (headers 152 (replicate 4 (record { rva = 0; size = 0 })) (raw 152 8 ∷ [])) ≡ Some (range_with_len 0 88 ++ range_with_len 92 76)

@@ -1,14 +1,15 @@
 -- What is signed in three ranges is all that is not left out.
 use Rattle.std.proofs.Common.{◌≡◌, ◌∙◌, refl, ℕ, ◌+◌, ◌<◌, ◌≤◌, ◌⊎◌, Bool, true, false, List, ◌++◌, length, sym, ap, inl, inr, arith, append_assoc}
-use Rattle.std.specs.Prelude.{◌==◌, ◌||◌, not, Option, None, Some, slice_range}
+use Rattle.std.specs.Prelude.{◌&&◌, ◌||◌, not, Option, None, Some, slice_range}
 use Rattle.std.proofs.lemmas.List.{append-nil}
-use Rattle.std.proofs.lemmas.Bool.{cases_Bool, and_parts, eqb-true, le-leb, leb-true, lt-ltb, ltb-true}
+use Rattle.std.proofs.lemmas.Bool.{cases_Bool, and_parts, le-leb, leb-true, lt-ltb, ltb-true}
 use Rattle.pe_view.specs.Number.{is_in}
 use Rattle.pe_head.specs.declared.directory.Directory.{Directory}
 use Rattle.pe_head.specs.declared.headers.Headers.{Headers}
 use Rattle.pe_head.specs.declared.optional.Magic.{Magic}
 use Rattle.pe_head.specs.declared.optional.Magic.TheVariants.{Pe32, Pe32Plus}
 use Rattle.pe_head.specs.Optional.{fixed_size_of}
+use Rattle.pe_trust.specs.CertificateTable.{is_absent}
 use Rattle.pe_trust.specs.Covered.{is_left_out, is_left_out_by}
 use Rattle.pe_trust.specs.SignedBytes.{Gaps, check_sum_place, directory_place, gaps_of}
 use Rattle.pe_trust.proofs.Kept.{kept_end, kept_from, kept_range, left_range}
@@ -26,16 +27,6 @@ outside start len offset apart = elim (cases_Bool (is_in start len offset)) [
         | inl before ↦ absurd (omega (arith, low, before))
         | inr behind ↦ absurd (omega (arith, high, behind))
       ]
-  | inr off ↦ off
-]
-
-is_in_none : (start len offset : ℕ) → len ≡ 0 → is_in start len offset ≡ false
-is_in_none start len offset none = elim (cases_Bool (is_in start len offset)) [
-  | inl is ↦
-      let parts = and_parts _ _ is in
-      let low = leb-true start offset parts.0 in
-      let high = ltb-true offset (start + len) parts.1 in
-      absurd (omega (arith, low, high, none))
   | inr off ↦ off
 ]
 
@@ -100,8 +91,8 @@ passes_none len h =
 -- of a directory, by where its table is
 passes_some : (h : Headers) (t : Directory) (table table_end : ℕ)
     → check_sum_place h + 4 ≤ directory_place h → directory_place h + 8 ≤ table
-    → ((i : ℕ) → i < table → is_in t.rva t.size i ≡ false)
-    → ((i : ℕ) → table ≤ i → i < table_end → is_in t.rva t.size i ≡ true)
+    → ((i : ℕ) → i < table → (not (is_absent t) && is_in t.rva t.size i) ≡ false)
+    → ((i : ℕ) → table ≤ i → i < table_end → (not (is_absent t) && is_in t.rva t.size i) ≡ true)
     → Passes (check_sum_place h) (record { entry = directory_place h; entry_end = directory_place h + 8; table = table; table_end = table_end }) (λ offset. not (is_left_out_by h (Some t) offset))
 passes_some h t table table_end first third before in_table =
     let start : ℕ = check_sum_place h in
@@ -148,19 +139,18 @@ GapsPass len h d = InOrder len (check_sum_place h) (gaps_of len h d) × Passes (
 pub gaps_pass : (len : ℕ) (h : Headers) (d : Option Directory) → (gaps_of len h d).entry_end ≤ (gaps_of len h d).table → (gaps_of len h d).table_end ≡ len → GapsPass len h d
 gaps_pass len h None third last =
     (record { first = omega arith; second = omega arith; third = third; fourth = omega arith; last = last }, passes_none len h)
-gaps_pass len h (Some t) third last = elim (cases_Bool (t.size == 0)) [
+gaps_pass len h (Some t) third last = elim (cases_Bool (is_absent t)) [
   | inl none ↦
-      let size = eqb-true t.size 0 none in
       let after : directory_place h + 8 ≤ len = rw none at third in
       rw none (
         record { first = sum_first h; second = omega arith; third = after; fourth = omega arith; last = refl },
-        passes_some h t len len (sum_first h) after (λ i lt. is_in_none t.rva t.size i size) (λ i le lt. absurd (omega (arith, le, lt))),
+        rw none at (passes_some h t len len (sum_first h) after (λ i lt. rw none refl) (λ i le lt. absurd (omega (arith, le, lt)))),
       )
   | inr some ↦
       let after : directory_place h + 8 ≤ t.rva = rw some at third in
       let end : t.rva + t.size ≡ len = rw some at last in
       rw some (
         record { first = sum_first h; second = omega arith; third = after; fourth = omega arith; last = end },
-        passes_some h t t.rva (t.rva + t.size) (sum_first h) after (λ i lt. outside t.rva t.size i (inl lt)) (λ i le lt. inside t.rva t.size i le lt),
+        rw some at (passes_some h t t.rva (t.rva + t.size) (sum_first h) after (λ i lt. rw some (outside t.rva t.size i (inl lt))) (λ i le lt. rw some (inside t.rva t.size i le lt))),
       )
 ]

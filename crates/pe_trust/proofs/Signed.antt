@@ -1,11 +1,12 @@
 -- What is signed where the rule is unambiguous, by the ranges that are left out.
 use Rattle.std.proofs.Common.{◌≡◌, ◌∙◌, refl, ℕ, ◌+◌, ◌-◌, ◌≤◌, Bool, cond, true, false, List, ◌++◌, length, sym, ap, subst, inl, inr, arith}
-use Rattle.std.specs.Prelude.{◌==◌, Option, None, Some, slice_range, slice_get}
+use Rattle.std.specs.Prelude.{Option, None, Some, slice_range, slice_get}
 use Rattle.std.proofs.lemmas.Bool.{cases_Bool, and_parts, eqb-true, leb-true}
 use Rattle.std.proofs.lemmas.Option.{same_Some}
 use Rattle.pe_head.specs.declared.directory.Directory.{Directory}
 use Rattle.pe_head.specs.declared.headers.Headers.{Headers}
 use Rattle.pe_head.specs.declared.section.SectionHeader.{SectionHeader}
+use Rattle.pe_trust.specs.CertificateTable.{is_absent}
 use Rattle.pe_trust.specs.SignedBytes.{Gaps, ascending_sections, authenticode_bytes, bytes_hashed, check_sum_place, gaps_in, gaps_of, hashed_bytes, is_gapless, is_unambiguous, table_size}
 use Rattle.pe_trust.proofs.Flat.{all_flat}
 
@@ -26,8 +27,8 @@ unambiguous len h g ss is =
 -- a table at the end of the file: what is behind the raw data, less as many bytes as it has, ends where it begins
 before_table : (len hashed : ℕ) (h : Headers) (d : Option Directory) → (gaps_of len h d).table_end ≡ len → len - (table_size d + hashed) ≡ (gaps_of len h d).table - hashed
 before_table len hashed h None last = omega arith
-before_table len hashed h (Some t) last = elim (cases_Bool (t.size == 0)) [
-  | inl none ↦ let zero_size = eqb-true t.size 0 none in rw none (omega (arith, zero_size))
+before_table len hashed h (Some t) last = elim (cases_Bool (is_absent t)) [
+  | inl none ↦ rw none (omega arith)
   | inr some ↦ let at : t.rva + t.size ≡ len = rw some at last in rw some (omega (arith, at))
 ]
 

@@ -1,5 +1,5 @@
 -- The rules of the certificate table, in the order of its findings.
-use Rattle.std.specs.Prelude.{ℕ, zero, suc, ◌+◌, ◌-◌, ◌%◌, ◌==◌, ◌&&◌, ◌||◌, Bool, not, min, nat_lt, List, [], ◌∷◌, length, map, Option, None, Some, is_none, slice_get, if◌then◌else◌}
+use Rattle.std.specs.Prelude.{ℕ, zero, suc, ◌+◌, ◌-◌, ◌%◌, ◌==◌, ◌&&◌, ◌||◌, Bool, not, min, nat_lt, List, [], ◌∷◌, length, map, Option, None, Some, is_none, if◌then◌else◌}
 use Rattle.std.specs.List.{list_any}
 use Rattle.pe_view.specs.Faults.{Test, test}
 use Rattle.pe_view.specs.declared.fault.Fault.{Fault}
@@ -7,6 +7,7 @@ use Rattle.pe_view.specs.declared.fault.Place.TheVariants.{File}
 use Rattle.pe_head.specs.declared.directory.Directory.{Directory}
 use Rattle.pe_head.specs.declared.headers.Headers.{Headers}
 use Rattle.pe_head.specs.declared.section.SectionHeader.{SectionHeader}
+use Rattle.pe_trust.specs.CertificateTable.{certificate_table}
 use Rattle.pe_trust.specs.Certificates.{is_whole, next_of}
 use Rattle.pe_trust.specs.SignedBytes.{authenticode_bytes, directory_place}
 
@@ -32,7 +33,7 @@ shares t s = not (s.pointer_to_raw_data == 0) && (nat_lt t.rva (s.pointer_to_raw
 abbrev pub overlaps : Headers → Directory → Bool
 overlaps h t = nat_lt t.rva h.size_of_headers || list_any (shares t) h.sections.items
 
--- of a table that has bytes, of image `number`, and where its first entry is that is not whole
+-- of a table, of image `number`, and where its first entry is that is not whole
 abbrev pub table_tests : ℕ → List ℕ → Headers → Directory → ℕ → List Test
 table_tests number file h t stop =
     test 221 number (File (directory_place h)) (nat_lt (length file) (table_end t))
@@ -46,13 +47,13 @@ table_tests number file h t stop =
 abbrev pub finding : Test → Option Fault
 finding t = if t.stands then Some t.fault else None
 
--- the finding of each rule in order; a table without bytes has none
+-- the finding of each rule in order; without a table there is none
 abbrev pub no_findings : List (Option Fault)
 no_findings = None ∷ None ∷ None ∷ None ∷ None ∷ []
 
 abbrev pub findings_by : ℕ → List ℕ → Headers → Option Directory → List (Option Fault)
 findings_by number file h None = no_findings
-findings_by number file h (Some t) = if t.size == 0 then no_findings else map finding (table_tests number file h t (stop_of file (whole_end file t) t.rva))
+findings_by number file h (Some t) = map finding (table_tests number file h t (stop_of file (whole_end file t) t.rva))
 
 abbrev pub certificate_findings_of : ℕ → List ℕ → Headers → List (Option Fault)
-certificate_findings_of number file h = findings_by number file h (slice_get h.directories.items 4)
+certificate_findings_of number file h = findings_by number file h (certificate_table h)

@@ -2,6 +2,7 @@ pub use Rattle.pe_view.specs.Faults
 pub use Rattle.pe_view.specs.Number
 pub use Rattle.pe_view.specs.View
 pub use Rattle.pe_head.specs.Head
+pub mod CertificateTable
 pub mod CertificateTests
 pub mod Certificates
 pub mod CheckSum

@@ -1,9 +1,10 @@
 -- What an overlay begins with.
-use Rattle.std.specs.Prelude.{ℕ, ◌+◌, ◌-◌, ◌==◌, ◌&&◌, ◌||◌, not, nat_le, Bool, false, List, [], ◌∷◌, length, codes, Option, None, Some, slice_get, if◌then◌else◌}
+use Rattle.std.specs.Prelude.{ℕ, ◌+◌, ◌-◌, ◌==◌, ◌&&◌, ◌||◌, not, nat_le, Bool, false, List, [], ◌∷◌, length, codes, Option, None, Some, if◌then◌else◌}
 use Rattle.std.specs.Str.{bytes_eq}
 use Rattle.pe_view.specs.Number.{part}
 use Rattle.pe_head.specs.declared.directory.Directory.{Directory}
 use Rattle.pe_head.specs.declared.headers.Headers.{Headers}
+use Rattle.pe_trust.specs.CertificateTable.{certificate_table}
 use Rattle.pe_trust.specs.Overlay.{file_end}
 use Rattle.pe_trust.specs.declared.overlay_data.OverlayKind.{OverlayKind}
 use Rattle.pe_trust.specs.declared.overlay_data.OverlayKind.TheVariants.{Certificates, SymbolTable, Nsis, SevenZip, Zip, Rar, Cabinet, CompoundFile, Executable, Other}
@@ -26,10 +27,10 @@ kind_of_data content =
     (if stands_at content 0 (0xd0 ∷ 0xcf ∷ 0x11 ∷ 0xe0 ∷ 0xa1 ∷ 0xb1 ∷ 0x1a ∷ 0xe1 ∷ []) then CompoundFile else
     (if stands_at content 0 (codes "MZ") then Executable else Other))))))
 
--- the certificate table, whose directory tells a file offset, begins at one
+-- the certificate table, if there is one, begins at a file offset
 abbrev pub is_begun_by_certificates : Option Directory → ℕ → Bool
 is_begun_by_certificates None offset = false
-is_begun_by_certificates (Some d) offset = not (d.size == 0) && (d.rva == offset)
+is_begun_by_certificates (Some t) offset = t.rva == offset
 
 abbrev pub is_begun_by_symbols : Headers → ℕ → Bool
 is_begun_by_symbols h offset = not (h.number_of_symbols == 0) && (h.pointer_to_symbol_table == offset)
@@ -41,5 +42,5 @@ overlay_of file h = part file (file_end h) (length file - file_end h)
 abbrev pub overlay_kind_of : List ℕ → Headers → Option OverlayKind
 overlay_kind_of file h =
     if nat_le (length file) (file_end h) then None else
-    (if is_begun_by_certificates (slice_get h.directories.items 4) (file_end h) then Some Certificates else
+    (if is_begun_by_certificates (certificate_table h) (file_end h) then Some Certificates else
     (if is_begun_by_symbols h (file_end h) then Some SymbolTable else Some (kind_of_data (overlay_of file h))))

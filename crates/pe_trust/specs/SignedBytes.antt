@@ -8,6 +8,7 @@ use Rattle.pe_head.specs.declared.directory.Directory.{Directory}
 use Rattle.pe_head.specs.declared.headers.Headers.{Headers}
 use Rattle.pe_head.specs.declared.section.SectionHeader.{SectionHeader}
 use Rattle.pe_head.specs.Optional.{fixed_size_of}
+use Rattle.pe_trust.specs.CertificateTable.{is_absent}
 use Rattle.pe_trust.specs.declared.signed_bytes.LeftOut.{LeftOut}
 use Rattle.pe_trust.specs.declared.signed_bytes.Parts.{Parts}
 
@@ -25,14 +26,14 @@ pub record Gaps : Type 0 where
   pub table : ℕ
   pub table_end : ℕ
 
--- of the entry's place and the directory: where Size is 0 no table, which is as one of no bytes at the end of the file
+-- of the entry's place and the directory: no table is as one of no bytes at the end of the file
 abbrev pub gaps_by : ℕ → ℕ → Directory → Gaps
 gaps_by len entry t =
     record {
       entry = entry;
       entry_end = entry + 8;
-      table = if t.size == 0 then len else t.rva;
-      table_end = if t.size == 0 then len else t.rva + t.size;
+      table = if is_absent t then len else t.rva;
+      table_end = if is_absent t then len else t.rva + t.size;
     }
 
 -- headers without directory 4 have neither
@@ -43,10 +44,10 @@ gaps_of len h (Some t) = gaps_by len (directory_place h) t
 abbrev pub gaps_in : ℕ → Headers → Gaps
 gaps_in len h = gaps_of len h (slice_get h.directories.items 4)
 
--- the size of the certificate table
+-- the size of the certificate table, 0 without one
 abbrev pub table_size : Option Directory → ℕ
 table_size None = 0
-table_size (Some t) = t.size
+table_size (Some t) = if is_absent t then 0 else t.size
 
 -- the first of sections in ascending order of PointerToRawData that does not begin before a file offset
 abbrev pub first_from : List SectionHeader → ℕ → Option ℕ

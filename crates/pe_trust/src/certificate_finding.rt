@@ -8,7 +8,8 @@ ghost use Rattle.pe_trust.specs.CertificateTests.{certificate_findings_of, findi
 
 use crate::entries::{entry_at, padded};
 use crate::signed_bytes::{entry_place, gaps_if_unambiguous};
-use pe_head::{Directory, Headers, SectionHeader, directory_index};
+use crate::table::certificate_table;
+use pe_head::{Directory, Headers, SectionHeader};
 use pe_view::{Fault, Place, View};
 
 /// Whether the table and the raw data of a section have a byte in common.
@@ -60,7 +61,7 @@ fn finding(number: u16, image: u16, offset: u64, stands: bool) -> Option<Fault>
     })
 }
 
-/// The findings of a table that has bytes.
+/// The findings of a table.
 fn table_findings(image: u16, file: View, headers: &Headers, table: Directory) -> [Option<Fault>; 5]
     ensures { result ≡ map finding (table_tests image (bytes_of file.entry) headers.now table (stop_of (bytes_of file.entry) (whole_end (bytes_of file.entry) table) table.rva)) }
 {
@@ -82,16 +83,12 @@ fn table_findings(image: u16, file: View, headers: &Headers, table: Directory) -
 }
 
 /// The findings 221 to 225 of an image's certificate table, of which directory 4 holds the file offset and the size, each in its place
-/// if its rule is broken; `image` is the number that the caller gives the image. A table without bytes has none.
+/// if its rule is broken; `image` is the number that the caller gives the image. Without a table (one of the two is 0) there is none.
 pub fn certificate_findings(image: u16, file: View, headers: &Headers) -> [Option<Fault>; 5]
     ensures { result ≡ certificate_findings_of image (bytes_of file.entry) headers.now }
 {
-    match headers
-        .directories
-        .as_slice()
-        .get(directory_index::CERTIFICATE)
-    {
-        Some(table) if table.size != 0 => table_findings(image, file, headers, *table),
-        _ => [None; 5],
+    match certificate_table(headers) {
+        Some(table) => table_findings(image, file, headers, table),
+        None => [None; 5],
     }
 }

@@ -1,12 +1,14 @@
 //! `Certificates`: the entries of the certificate table.
 
-ghost use Rattle.std.specs.Prelude.{◌≡◌, ◌+◌, ◌*◌, ◌/◌, ◌^◌, ◌<◌, ◌≤◌, IfSome, option_map, slice_get};
+ghost use Rattle.std.specs.Prelude.{◌≡◌, ◌+◌, ◌*◌, ◌/◌, ◌^◌, ◌<◌, ◌≤◌, IfSome, option_map};
 ghost use Rattle.pe_view.specs.View.{bytes_of, size_of};
 ghost use Rattle.pe_view.specs.Number.{num, byte_of};
+ghost use Rattle.pe_trust.specs.CertificateTable.{certificate_table};
 ghost use Rattle.pe_trust.specs.Certificates.{certificates_of, certificates_by, certificates_left, certificate_view, whole_entry};
 
 use crate::certificate::{Certificate, Certificates};
-use pe_head::{Directory, Headers, directory_index};
+use crate::table::certificate_table;
+use pe_head::{Directory, Headers};
 use pe_view::View;
 
 impl<'a> Iterator for Certificates<'a> {
@@ -83,21 +85,17 @@ pub(crate) fn certificates_in<'a>(file: View<'a>, table: Directory) -> Certifica
 }
 
 impl<'a> Certificates<'a> {
-    /// The entries of an image's certificate table, of which directory 4 holds the file offset and the size.
+    /// The entries of an image's certificate table, of which directory 4 holds the file offset and the size; none if one of these is 0.
     pub fn of(file: View<'a>, headers: &Headers) -> Certificates<'a>
-        ensures { certificates_left result ≡ certificates_of (bytes_of file.entry) (slice_get headers.now.directories.items 4) }
+        ensures { certificates_left result ≡ certificates_of (bytes_of file.entry) (certificate_table headers.now) }
     {
-        let Some(table) = headers
-            .directories
-            .as_slice()
-            .get(directory_index::CERTIFICATE)
-        else {
+        let Some(table) = certificate_table(headers) else {
             return Certificates {
                 file,
                 at: 0,
                 end: 0,
             };
         };
-        certificates_in(file, *table)
+        certificates_in(file, table)
     }
 }

@@ -34,6 +34,7 @@ mod signature;
 mod signed_bytes;
 mod signer;
 mod sum;
+mod table;
 
 pub use certificate::{Certificate, Certificates};
 pub use certificate_finding::certificate_findings;
@@ -51,3 +52,4 @@ pub use rich_words::{RichHeader, RichPair};
 pub use signature::{SignedDigest, signed_digest};
 pub use signer::{Signer, Signers};
 pub use sum::check_sum;
+pub use table::certificate_table;

@@ -1,11 +1,13 @@
 //! `overlay_kind`: what the overlay of an image's file begins with.
 
-ghost use Rattle.std.specs.Prelude.{◌≡◌, slice_get};
+ghost use Rattle.std.specs.Prelude.{◌≡◌};
 ghost use Rattle.pe_view.specs.View.{bytes_of};
+ghost use Rattle.pe_trust.specs.CertificateTable.{certificate_table};
 ghost use Rattle.pe_trust.specs.OverlayKinds.{is_begun_by_certificates, is_begun_by_symbols, kind_of_data, overlay_kind_of, stands_at};
 
 use crate::overlay::file_end;
-use pe_head::{Headers, directory_index};
+use crate::table::certificate_table;
+use pe_head::Headers;
 use pe_view::View;
 
 /// What the overlay of an image's file begins with.
@@ -73,14 +75,10 @@ fn kind_of_data(begun: View) -> OverlayKind
 
 /// Whether the certificate table begins at an offset.
 fn is_begun_by_certificates(headers: &Headers, offset: u64) -> bool
-    ensures { result ≡ is_begun_by_certificates (slice_get headers.now.directories.items 4) offset }
+    ensures { result ≡ is_begun_by_certificates (certificate_table headers.now) offset }
 {
-    match headers
-        .directories
-        .as_slice()
-        .get(directory_index::CERTIFICATE)
-    {
-        Some(table) => table.size != 0 && u64::from(table.rva) == offset,
+    match certificate_table(headers) {
+        Some(table) => u64::from(table.rva) == offset,
         None => false,
     }
 }

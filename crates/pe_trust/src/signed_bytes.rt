@@ -6,6 +6,7 @@ ghost use Rattle.pe_head.specs.Optional.{fixed_size_of};
 ghost use Rattle.pe_trust.specs.SignedBytes.{Gaps, ascending_sections, authenticode_bytes, check_sum_place, directory_place, gaps_by, gaps_in, gaps_of, gaps_view, is_unambiguous, parts_view};
 
 use crate::raw_data::raw_data_end;
+use crate::table::is_absent;
 use pe_head::{Directory, Headers, Magic, directory_index};
 use pe_view::View;
 
@@ -44,12 +45,12 @@ fn left_out_by(len: u64, entry: u64, table: Directory) -> LeftOut
     ensures { gaps_view result ≡ gaps_by len entry table }
 {
     let start = u64::from(table.rva);
-    let is_empty = table.size == 0;
+    let is_absent = is_absent(table);
     LeftOut {
         entry,
         entry_end: entry + 8,
-        table: if is_empty { len } else { start },
-        table_end: if is_empty {
+        table: if is_absent { len } else { start },
+        table_end: if is_absent {
             len
         } else {
             start + u64::from(table.size)
