@@ -14,9 +14,8 @@ def public_modules(folder: pathlib.Path) -> List[str]:
 
 
 def private_modules(folder: pathlib.Path) -> List[str]:
-    """The same where no module is public, and `tests` is one of tests."""
-    names = _sources(folder, ".rt", "lib")
-    return [line for it in names for line in (["#[cfg(test)]"] if it == "tests" else []) + [f"mod {it};"]]
+    """The same where no module is public."""
+    return [f"mod {it};" for it in _sources(folder, ".rt", "lib")]
 
 
 def definitions(folder: pathlib.Path) -> List[str]:

@@ -119,7 +119,6 @@ FIELDS_WRITTEN = [
     ("bindings/python/petool/__init__.py", '    "Section",\n', ""),
     ("bindings/rust/petool/src/lib.rs", "ObjectRelocation as Relocation,", "ObjectRelocation,"),
     ("crates/petool_c/src/lib.rt", "\nmod fixup;\n", "\n"),
-    ("crates/petool_c/src/lib.rt", "#[cfg(test)]\nmod tests;\n", ""),
     ("crates/pe_records_c/src/lib.rt", "pub mod import;\n", "mod import;\n"),
     ("crates/pe_show/src/lib.rt", "\nmod fixups;\n", "\n"),
     ("crates/pe_records_c/specs/Lib.antt", "pub mod HeaderRows\n", ""),

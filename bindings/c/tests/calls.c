@@ -101,9 +101,14 @@ static void check_headers(void)
     check_sections(sections);
     CHECK(sections[3].rva == 0x5a5a5a5a);
 
-    /* less room than sections */
+    /* less room than sections: of the three as many as there is room for */
     CHECK(petool_read_headers(vr.at, vr.len, &headers, one, 1, &fault) == PETOOL_OK);
     CHECK(headers.number_of_sections == 3 && one[0].rva == 0x20000);
+    memset(sections, 0x5a, sizeof sections);
+    CHECK(petool_read_headers(vr.at, vr.len, &headers, sections, 2, &fault) == PETOOL_OK && is_untold(fault));
+    CHECK(memcmp(sections[0].name, "\"a\\\x01\0\0\0", 8) == 0 && sections[0].rva == 0x20000);
+    CHECK(sections[0].extent == 0x2345 && sections[0].file_size == 0x1f0);
+    CHECK(sections[1].rva == 0x30000 && sections[1].characteristics == 0xe2000060 && sections[2].rva == 0x5a5a5a5a);
 
     /* PE32 has BaseOfData; directories that the file does not have are 0 */
     CHECK(petool_read_headers(v1.at, v1.len, &headers, sections, 0, &fault) == PETOOL_OK);
@@ -129,6 +134,11 @@ static void check_bytes(void)
     for (i = 0; i < 16; i++)
         holds = holds && bytes[i] == i;
     CHECK(holds && bytes[16] == 0 && bytes[17] == 0x5a);
+    /* the last two of them, and what comes next */
+    CHECK(petool_read(v1.at, v1.len, 0x100e, bytes, 3, &fault) == PETOOL_OK && is_untold(fault));
+    CHECK(memcmp(bytes, "\x0e\x0f\0", 3) == 0);
+    CHECK(petool_read(v1.at, v1.len, 0x2ffe, bytes, 3, &fault) == PETOOL_ABSENT && is_untold(fault));
+    CHECK(memcmp(bytes, "\x0e\x0f\0", 3) == 0);
     /* the image has 0x3000 bytes: all or none of them */
     CHECK(petool_read(v1.at, v1.len, 0x2fff, bytes, 1, &fault) == PETOOL_OK);
     CHECK(bytes[0] == 0);
@@ -139,17 +149,20 @@ static void check_bytes(void)
     CHECK(petool_read(v1.at, 70, 0, bytes, 1, &fault) == PETOOL_FAULT);
     CHECK(bytes[0] == 0x5a && fault.number == 4);
 
+    fault = UNTOLD;
     CHECK(petool_locate(v1.at, v1.len, 0x100f, &offset, &fault) == PETOOL_OK);
     CHECK(offset == 0x20f);
     CHECK(petool_locate(v1.at, v1.len, 0x1010, &offset, &fault) == PETOOL_ABSENT);
     CHECK(petool_locate(v1.at, v1.len, 0x3000, &offset, &fault) == PETOOL_ABSENT);
-    CHECK(offset == 0x20f);
+    CHECK(offset == 0x20f && is_untold(fault));
     CHECK(petool_locate(v1.at, 0, 0, &offset, &fault) == PETOOL_FAULT);
 
+    fault = UNTOLD;
     CHECK(petool_read_text(v1.at, v1.len, 0x1001, &text, &fault) == PETOOL_ABSENT);
+    CHECK(petool_read_text(v1.at, v1.len, 0x3000, &text, &fault) == PETOOL_ABSENT);
     CHECK(is_text(text, "", 0));
     CHECK(petool_read_text(v1.at, v1.len, 0, &text, &fault) == PETOOL_OK);
-    CHECK(is_text(text, "MZ", 2) && text.at == v1.at);
+    CHECK(is_text(text, "MZ", 2) && text.at == v1.at && is_untold(fault));
     CHECK(petool_read_text(v1.at, 0, 0, &text, &fault) == PETOOL_FAULT);
 }
 
@@ -198,6 +211,9 @@ static void check_exports(void)
     CHECK(is_row(&rows[2], 0, "", 0));
     CHECK(petool_export_names(vr.at, vr.len, rows, 3, &count, &fault) == PETOOL_OK);
     CHECK(is_row(&rows[2], 65537, "plain", 5) && is_407_of_o(rows[2].target));
+    petool_exports_init(rows, 6);
+    CHECK(petool_export_names(vr.at, vr.len, rows, 4, &count, &fault) == PETOOL_OK && count == 3 && is_untold(fault));
+    CHECK(is_row(&rows[2], 65537, "plain", 5) && is_407_of_o(rows[2].target) && is_row(&rows[3], 0, "", 0));
 
     count = 99;
     CHECK(petool_exports(vr.at, 64, rows, 6, &count, &fault) == PETOOL_FAULT);
@@ -220,8 +236,13 @@ static void check_searches(void)
     CHECK(petool_export_by_ordinal(vb.at, vb.len, 0x100000007, &target, &fault) == PETOOL_ABSENT);
     CHECK(petool_export_by_name(vb.at, vb.len, (const uint8_t *)"h", 1, &target, &fault) == PETOOL_ABSENT);
     CHECK(is_rva(target, 0x1010) && is_untold(fault));
+    /* between two ordinals of vr.dll, and the beginning of a name */
+    CHECK(petool_export_by_ordinal(vr.at, vr.len, 65535, &target, &fault) == PETOOL_ABSENT);
+    CHECK(petool_export_by_name(vr.at, vr.len, (const uint8_t *)"plai", 4, &target, &fault) == PETOOL_ABSENT);
+    CHECK(is_rva(target, 0x1010) && is_untold(fault));
+    CHECK(petool_export_by_ordinal(vr.at, vr.len, 65538, &target, &fault) == PETOOL_OK && is_rva(target, 0x30123));
     CHECK(petool_export_by_name(vr.at, vr.len, (const uint8_t *)"plain", 5, &target, &fault) == PETOOL_OK);
-    CHECK(is_407_of_o(target));
+    CHECK(is_407_of_o(target) && is_untold(fault));
     CHECK(petool_export_by_name(va.at, va.len, (const uint8_t *)"f", 1, &target, &fault) == PETOOL_OK);
     CHECK(target.kind == PETOOL_TARGET_ORDINAL && target.ordinal == 7 && is_text(target.module, "b", 1));
     CHECK(petool_export_by_name(va.at, 9, (const uint8_t *)"f", 1, &target, &fault) == PETOOL_FAULT);
@@ -250,7 +271,7 @@ static void check_imports(void)
     CHECK(is_import(&rows[4], "c\\\x80", 3, "\xff", 1, 0, 0x30078));
     CHECK(rows[5].slot == 0);
     count = 99;
-    CHECK(petool_imports(vr.at, vr.len, rows, 4, &count, &fault) == PETOOL_SMALL && count == 5);
+    CHECK(petool_imports(vr.at, vr.len, rows, 4, &count, &fault) == PETOOL_SMALL && count == 5 && is_untold(fault));
     CHECK(petool_imports(vr.at, 64, rows, 6, &count, &fault) == PETOOL_FAULT && count == 5);
 }
 
@@ -286,18 +307,21 @@ static void check_fixups(void)
     CHECK(rows[4].field == 0);
     CHECK(petool_fixups(v2.at, v2.len, rows, 0, &count, &fault) == PETOOL_SMALL && count == 1);
     CHECK(petool_fixups(v2.at, v2.len, rows, 1, &count, &fault) == PETOOL_OK && rows[0].entry == 0x2008);
+    memset(rows, 0x5a, sizeof rows);
+    CHECK(petool_fixups(v2.at, v2.len, rows, 2, &count, &fault) == PETOOL_OK && count == 1 && is_untold(fault));
+    CHECK(rows[0].entry == 0x2008 && is_fixup(&rows[0], 0x1008, 3) && rows[1].field == 0x5a5a5a5a);
     CHECK(petool_fixups(v2.at, 64, rows, 1, &count, &fault) == PETOOL_FAULT && count == 1);
 }
 
 static void check_tables(void)
 {
-    petool_export exports[5], names[3];
+    petool_export exports[5], names[5];
     petool_import imports[5];
-    petool_fixup fixups[4];
+    petool_fixup fixups[5];
     petool_counts counts = {99, 99, 99, 99};
     petool_fault fault = UNTOLD;
     petool_exports_init(exports, 5);
-    petool_exports_init(names, 3);
+    petool_exports_init(names, 5);
     petool_imports_init(imports, 5);
     memset(fixups, 0, sizeof fixups);
     CHECK(petool_tables(vr.at, vr.len, exports, 5, names, 3, imports, 5, fixups, 4, &counts, &fault) == PETOOL_OK);
@@ -306,6 +330,15 @@ static void check_tables(void)
     CHECK(imports[4].slot == 0x30078 && fixups[3].field == 0x41010);
     CHECK(petool_tables(vr.at, vr.len, exports, 5, names, 3, imports, 5, fixups, 3, &counts, &fault) == PETOOL_SMALL);
     CHECK(petool_tables(vr.at, vr.len, exports, 4, names, 3, imports, 5, fixups, 4, &counts, &fault) == PETOOL_SMALL);
+
+    /* with more rows than names and base relocations, and with fewer rows than exports, of which the first ones are told */
+    petool_exports_init(exports, 5);
+    CHECK(petool_tables(vr.at, vr.len, exports, 5, names, 5, imports, 5, fixups, 5, &counts, &fault) == PETOOL_OK && is_untold(fault));
+    CHECK(counts.exports == 5 && counts.names == 3 && counts.imports == 5 && counts.fixups == 4);
+    CHECK(is_row(&exports[4], 65539, "", 0) && is_row(&names[3], 0, "", 0) && fixups[4].field == 0);
+    petool_exports_init(exports, 5);
+    CHECK(petool_tables(vr.at, vr.len, exports, 4, names, 5, imports, 5, fixups, 5, &counts, &fault) == PETOOL_SMALL);
+    CHECK(is_row(&exports[3], 65538, "", 0) && is_row(&exports[4], 0, "", 0) && is_untold(fault));
     counts.exports = 99;
     CHECK(petool_tables(vr.at, 64, exports, 5, names, 3, imports, 5, fixups, 4, &counts, &fault) == PETOOL_FAULT);
     CHECK(counts.exports == 99 && fault.number == 4);
@@ -325,15 +358,16 @@ static void check_rebase(void)
     CHECK(petool_read_headers(out, v2.len, &headers, sections, 0, &fault) == PETOOL_OK);
     CHECK(headers.image_base == 0x20000000 && headers.check_sum == 0);
     CHECK(petool_read(out, v2.len, 0x1008, field, 4, &fault) == PETOOL_OK);
-    /* it held the address 0x10001008 */
-    CHECK(memcmp(field, "\x08\x10\x00\x20", 4) == 0);
+    /* it held the address 0x10001008, at 0x208 of the file */
+    CHECK(memcmp(field, "\x08\x10\x00\x20", 4) == 0 && memcmp(out + 0x208, field, 4) == 0 && is_untold(fault));
 
     memset(out, 0x5a, v2.len);
     CHECK(petool_rebase(v2.at, v2.len, 0x20000001, out, v2.len, &fault) == PETOOL_FAULT);
-    CHECK(fault.number == 44 && fault.place == PETOOL_PLACE_ADDRESS && fault.at == 0x20000001);
-    CHECK(out[0] == 0x5a && out[v2.len - 1] == 0x5a);
+    CHECK(is_fault(fault, 44, PETOOL_PLACE_ADDRESS, 0x20000001));
+    CHECK(out[0] == 0x5a && out[0x208] == 0x5a && out[v2.len - 1] == 0x5a);
+    fault = UNTOLD;
     CHECK(petool_rebase(v2.at, v2.len, 0x20000000, out, v2.len - 1, &fault) == PETOOL_ARGUMENT);
-    CHECK(out[0] == 0x5a);
+    CHECK(out[0] == 0x5a && is_untold(fault));
     free(out);
 }
 
@@ -357,7 +391,10 @@ static void check_words(void)
     CHECK(petool_fault_words(13, &subject, &rule) == PETOOL_OK);
     CHECK(is_text(subject, "section header", 14));
     CHECK(is_text(rule, "the section's raw data extends past the end of the file", 55));
+    CHECK(petool_fault_words(9, &subject, &rule) == PETOOL_OK);
+    CHECK(is_text(subject, "NumberOfSections", 16) && is_text(rule, "the image has more than 96 sections", 35));
     CHECK(petool_fault_words(86, &subject, &rule) == PETOOL_ABSENT);
+    CHECK(is_text(subject, "NumberOfSections", 16) && is_text(rule, "the image has more than 96 sections", 35));
     check_line(13, PETOOL_PLACE_FILE, 0x138, "section header at 0x138: the section's raw data extends past the end of the file");
     check_line(34, PETOOL_PLACE_RVA, 0x2000, "base relocation table at RVA 0x2000: the table extends past the end of the image");
     check_line(44, PETOOL_PLACE_ADDRESS, 0x20000001, "base 0x20000001: the base is not a multiple of 65,536");
@@ -427,6 +464,52 @@ static void check_names(void)
     CHECK(is_named(PETOOL_NAME_LOAD_FIELD, 51, "GuardMemcpyFunctionPointer") && has_no_name(PETOOL_NAME_LOAD_FIELD, 52));
 }
 
+/* Checks that a call refuses the first 63 bytes of a file, which have fault 2. */
+#define CHECK_CUT(call)                                                             \
+    do {                                                                            \
+        fault = UNTOLD;                                                             \
+        CHECK((call) == PETOOL_FAULT && is_fault(fault, 2, PETOOL_PLACE_FILE, 63)); \
+    } while (0)
+
+/* Each call on them reports this fault, and leaves everything else unchanged. */
+static void check_cut(void)
+{
+    petool_headers headers, kept;
+    petool_section section;
+    petool_export rows[2];
+    petool_import import;
+    petool_fixup fixup;
+    petool_target target;
+    petool_text text = PETOOL_NONE;
+    petool_counts counts = {99, 99, 99, 99};
+    petool_fault fault;
+    uint8_t file[63];
+    uint64_t offset = 7;
+    size_t count = 99;
+    memset(&headers, 0x5a, sizeof headers), memset(&kept, 0x5a, sizeof kept), memset(&section, 0x5a, sizeof section);
+    memset(&fixup, 0x5a, sizeof fixup), memset(file, 0x5a, sizeof file);
+    petool_exports_init(rows, 2), petool_imports_init(&import, 1), petool_target_init(&target);
+    CHECK_CUT(petool_check(vr.at, 63, &fault));
+    CHECK_CUT(petool_read_headers(vr.at, 63, &headers, &section, 1, &fault));
+    CHECK_CUT(petool_read(v1.at, 63, 0, file, 3, &fault));
+    CHECK_CUT(petool_locate(v1.at, 63, 0, &offset, &fault));
+    CHECK_CUT(petool_read_text(v1.at, 63, 0, &text, &fault));
+    CHECK_CUT(petool_exports(vr.at, 63, rows, 1, &count, &fault));
+    CHECK_CUT(petool_export_names(vr.at, 63, rows, 1, &count, &fault));
+    CHECK_CUT(petool_export_by_name(vr.at, 63, (const uint8_t *)"f", 1, &target, &fault));
+    CHECK_CUT(petool_export_by_ordinal(vr.at, 63, 65538, &target, &fault));
+    CHECK_CUT(petool_imports(vr.at, 63, &import, 1, &count, &fault));
+    CHECK_CUT(petool_import_at(vr.at, 63, 0x40018, &import, &fault));
+    CHECK_CUT(petool_fixups(v2.at, 63, &fixup, 1, &count, &fault));
+    CHECK_CUT(petool_tables(vr.at, 63, rows, 1, rows + 1, 1, &import, 1, &fixup, 1, &counts, &fault));
+    CHECK_CUT(petool_rebase(v2.at, 63, 0x20000000, file, sizeof file, &fault));
+    CHECK(memcmp(&headers, &kept, sizeof kept) == 0 && section.rva == 0x5a5a5a5a);
+    CHECK(file[0] == 0x5a && file[62] == 0x5a && offset == 7 && is_text(text, "", 0));
+    CHECK(is_row(&rows[0], 0, "", 0) && is_row(&rows[1], 0, "", 0) && target.rva == 0 && target.name.len == 0);
+    CHECK(import.slot == 0 && import.module.len == 0 && fixup.field == 0x5a5a5a5a && count == 99);
+    CHECK(counts.exports == 99 && counts.names == 99 && counts.imports == 99 && counts.fixups == 99);
+}
+
 /* NULL with length or room 0 is allowed for bytes, texts and rows; with another it is refused, and nothing is done. */
 static void check_null(void)
 {
@@ -481,6 +564,7 @@ int main(int argc, char **argv)
     check_words();
     check_values();
     check_names();
+    check_cut();
     check_null();
     free(v1.at), free(v2.at), free(v3.at), free(va.at), free(vb.at), free(vc.at), free(vr.at);
     return told();

@@ -4,12 +4,17 @@
 
 static bytes o1, two;
 
+/* Fault 61 of the first 19 bytes of an object. */
+static int is_cut(petool_fault fault)
+{
+    return fault.number == 61 && fault.image == 0 && fault.place == PETOOL_PLACE_FILE && fault.at == 19;
+}
+
 static void check_judging(void)
 {
     petool_fault fault = {0, 0, 0, 0};
     CHECK(petool_object_check(o1.at, o1.len, &fault) == PETOOL_OK && fault.number == 0);
-    CHECK(petool_object_check(o1.at, 19, &fault) == PETOOL_FAULT);
-    CHECK(fault.number == 61 && fault.place == PETOOL_PLACE_FILE && fault.at == 19);
+    CHECK(petool_object_check(o1.at, 19, &fault) == PETOOL_FAULT && is_cut(fault));
 }
 
 /* An object whose headers have no byte twice but 0, so that each value shows which bytes were read. It has no symbols and no
@@ -67,8 +72,16 @@ static void check_sections(void)
     CHECK(rows[0].bytes.len == 0 && rows[0].absent_size == 0x12345678 && rows[0].characteristics == 0xc0000080);
     CHECK(petool_object_sections(two.at, two.len, rows, 2, &count, &fault) == PETOOL_OK);
     CHECK(is_text(rows[1].name, ".data", 5) && rows[1].absent_size == 0 && rows[1].relocation_count == 0);
+    CHECK(fault.number == 0);
     count = 99;
     CHECK(petool_object_sections(two.at, 99, rows, 2, &count, &fault) == PETOOL_FAULT && fault.number == 63 && count == 99);
+
+    petool_object_sections_init(rows, 2);
+    fault = UNTOLD;
+    CHECK(petool_object_sections(o1.at, o1.len, rows, 0, &count, &fault) == PETOOL_SMALL && count == 1 && is_untold(fault));
+    count = 99;
+    CHECK(petool_object_sections(o1.at, 19, rows, 2, &count, &fault) == PETOOL_FAULT && is_cut(fault));
+    CHECK(count == 99 && rows[0].name.len == 0);
 }
 
 static void check_relocations(void)
@@ -83,7 +96,7 @@ static void check_relocations(void)
     CHECK(rows[0].address == 1 && rows[0].symbol == 3 && rows[0].kind == 4 && rows[1].address == 0);
     CHECK(fault.number == 0);
     count = 99;
-    CHECK(petool_object_relocations(o1.at, 19, 0, rows, 2, &count, &fault) == PETOOL_FAULT && fault.number == 61 && count == 99);
+    CHECK(petool_object_relocations(o1.at, 19, 0, rows, 2, &count, &fault) == PETOOL_FAULT && is_cut(fault) && count == 99);
 }
 
 /* An object of three sections, which have two relocations, none and three, and one symbol. */
@@ -107,6 +120,55 @@ static uint8_t three_bytes[] = {
     'x', 0, 0, 0, 0, 0, 0, 0, 0, 0, 0, 0, 0, 0, 0, 0, 2, 0,
     4, 0, 0, 0,
 };
+
+/* An object of two sections, which have two relocations and one, and two symbols. */
+static uint8_t two_sections_bytes[] = {
+    /* the COFF header: the symbol table is at 130 */
+    0x64, 0x86, 2, 0, 0, 0, 0, 0, 130, 0, 0, 0, 2, 0, 0, 0, 0, 0, 0, 0,
+    /* 20: two relocations, at 100 */
+    '.', 'a', 0, 0, 0, 0, 0, 0, 0, 0, 0, 0, 0, 0, 0, 0, 0, 0, 0, 0, 0, 0, 0, 0, 100, 0, 0, 0, 0, 0, 0, 0, 2, 0, 0, 0, 0x20, 0, 0, 0x60,
+    /* 60: one relocation, at 120 */
+    '.', 'b', 0, 0, 0, 0, 0, 0, 0, 0, 0, 0, 0, 0, 0, 0, 0, 0, 0, 0, 0, 0, 0, 0, 120, 0, 0, 0, 0, 0, 0, 0, 1, 0, 0, 0, 0x20, 0, 0, 0x60,
+    /* 100 */
+    1, 0, 0, 0, 0, 0, 0, 0, 4, 0,
+    0x10, 0, 0, 0, 1, 0, 0, 0, 2, 0,
+    /* 120 */
+    0x44, 0x33, 0x22, 0x11, 1, 0, 0, 0, 0x34, 0x12,
+    /* 130: the symbols, and an empty string table */
+    'x', 0, 0, 0, 0, 0, 0, 0, 0, 0, 0, 0, 0, 0, 0, 0, 2, 0,
+    'y', 0, 0, 0, 0, 0, 0, 0, 0, 0, 0, 0, 0, 0, 0, 0, 2, 0,
+    4, 0, 0, 0,
+};
+
+/* Its relocations. */
+static const petool_object_relocation of_two_sections[3] = {{1, 0, 4}, {0x10, 1, 2}, {0x11223344, 1, 0x1234}};
+
+/* Asserts which of them are told after `skipped`, into `room` rows, of at most four: the rest stays as it was. */
+static void check_skipped(size_t skipped, size_t room, uint32_t expected)
+{
+    petool_object_relocation rows[4];
+    const petool_object_relocation unwritten = {9, 9, 9};
+    petool_fault fault = UNTOLD;
+    size_t count = 99, behind = skipped < 3 ? 3 - skipped : 0;
+    for (size_t row = 0; row < 4; row++)
+        rows[row] = unwritten;
+    CHECK(petool_object_all_relocations(two_sections_bytes, sizeof two_sections_bytes, skipped, rows, room, &count, &fault) == expected);
+    CHECK(count == behind && is_untold(fault));
+    for (size_t row = 0; row < 4; row++) {
+        const petool_object_relocation *wanted = row < room && row < behind ? &of_two_sections[skipped + row] : &unwritten;
+        CHECK(rows[row].address == wanted->address && rows[row].symbol == wanted->symbol && rows[row].kind == wanted->kind);
+    }
+}
+
+static void check_two_sections(void)
+{
+    check_skipped(0, 4, PETOOL_OK);
+    check_skipped(0, 2, PETOOL_SMALL);
+    check_skipped(1, 2, PETOOL_OK);
+    check_skipped(2, 2, PETOOL_OK);
+    check_skipped(3, 2, PETOOL_OK);
+    check_skipped(SIZE_MAX, 2, PETOOL_OK);
+}
 
 /* the relocations of all sections, read section by section */
 static size_t section_by_section(bytes object, petool_object_relocation *rows, size_t room)
@@ -179,7 +241,8 @@ static void check_all_relocations(void)
     CHECK(petool_object_all_relocations(three.at, three.len, SIZE_MAX, rows, 2, &count, &fault) == PETOOL_OK && count == 0);
     CHECK(rows[0].address == 0x11223344);
     count = 99;
-    CHECK(petool_object_all_relocations(o1.at, 19, 0, rows, 2, &count, &fault) == PETOOL_FAULT && fault.number == 61 && count == 99);
+    CHECK(petool_object_all_relocations(o1.at, 19, 0, rows, 2, &count, &fault) == PETOOL_FAULT && is_cut(fault) && count == 99);
+    CHECK(rows[0].address == 0x11223344 && rows[1].address == 3);
 }
 
 static void check_symbols(void)
@@ -198,7 +261,8 @@ static void check_symbols(void)
     CHECK(rows[4].index == 0 && rows[4].class_ == 0);
     CHECK(petool_object_symbols(o1.at, o1.len, rows, 3, &count, &fault) == PETOOL_SMALL && count == 4);
     count = 99;
-    CHECK(petool_object_symbols(o1.at, 19, rows, 5, &count, &fault) == PETOOL_FAULT && fault.number == 61 && count == 99);
+    CHECK(fault.number == 0);
+    CHECK(petool_object_symbols(o1.at, 19, rows, 5, &count, &fault) == PETOOL_FAULT && is_cut(fault) && count == 99);
 }
 
 int main(int argc, char **argv)
@@ -212,6 +276,7 @@ int main(int argc, char **argv)
     check_sections();
     check_relocations();
     check_all_relocations();
+    check_two_sections();
     check_symbols();
     free(o1.at), free(two.at);
     return told();

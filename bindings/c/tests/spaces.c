@@ -30,6 +30,8 @@ static void check_judging(void)
     CHECK(petool_judge(abc, 3, false, rows, 2, &count, &cycle, &fault) == PETOOL_OK);
     CHECK(count == 1 && is_bound(rows[0]) && rows[1].slot == 0 && cycle == 77 && fault.number == 0);
     CHECK(petool_judge(abc, 3, false, rows, 0, &count, &cycle, &fault) == PETOOL_SMALL && count == 1);
+    CHECK(petool_judge(abc + 1, 2, true, rows, 2, &count, &cycle, &fault) == PETOOL_OK && count == 0 && fault.number == 0);
+    count = 99;
 
     /* without a.dll: a fault, or a slot that is left unchanged */
     wrong[0] = abc[1];
@@ -178,7 +180,9 @@ static void check_moves(petool_space *space)
     CHECK(petool_space_read(space, 0x401030, slot, 4, &fault) == PETOOL_OK);
     CHECK(memcmp(slot, "\x10\x10\x00\x30", 4) == 0);
     CHECK(petool_space_image(space, 1, &base, &size) == PETOOL_OK && base == 0x30000000);
-    CHECK(petool_space_read(space, 0x20000000, slot, 1, &fault) == PETOOL_FAULT);
+    slot[0] = 0x5a;
+    CHECK(petool_space_read(space, 0x20000000, slot, 1, &fault) == PETOOL_FAULT && slot[0] == 0x5a);
+    CHECK(fault.number == 54 && fault.image == 65535 && fault.place == PETOOL_PLACE_ADDRESS && fault.at == 0x20000000);
 
     moved.fields = 77;
     CHECK(petool_space_move(space, 1, 0x10000000, &moved, &fault) == PETOOL_FAULT);
@@ -189,13 +193,14 @@ static void check_moves(petool_space *space)
     CHECK(fault.number == 55 && fault.image == 0x10001 && fault.place == PETOOL_PLACE_ITEM && fault.at == 0x10001);
     CHECK(moved.fields == 77 && moved.slots == 1);
     CHECK(petool_space_image(space, 1, &base, &size) == PETOOL_OK && base == 0x30000000);
+    CHECK(petool_space_read(space, 0x401030, slot, 4, &fault) == PETOOL_OK && memcmp(slot, "\x10\x10\x00\x30", 4) == 0);
 }
 
 static void check_closed(petool_space *space)
 {
     petool_binding row[1];
     petool_moved moved = {77, 77};
-    petool_fault fault = {0, 0, 0, 0};
+    petool_fault fault = UNTOLD;
     uint8_t byte = 0x5a;
     uint64_t base = 7;
     uint32_t size = 7;
@@ -204,9 +209,9 @@ static void check_closed(petool_space *space)
     memset(row, 0, sizeof row);
     CHECK(petool_space_read(space, 0x401030, &byte, 1, &fault) == PETOOL_CLOSED && byte == 0x5a);
     CHECK(petool_space_move(space, 0, 0x30000000, &moved, &fault) == PETOOL_CLOSED && moved.fields == 77);
-    CHECK(petool_space_image(space, 0, &base, &size) == PETOOL_CLOSED && base == 7);
+    CHECK(petool_space_image(space, 0, &base, &size) == PETOOL_CLOSED && base == 7 && size == 7);
     CHECK(petool_space_bindings(space, row, 1, &count) == PETOOL_CLOSED && count == 99);
-    CHECK(fault.number == 0);
+    CHECK(is_untold(fault));
 }
 
 /* The three images have 0x3000 bytes each. */
@@ -268,7 +273,11 @@ static void check_space(void)
     /* a set that is refused leaves it closed */
     moving[0].base = 1;
     CHECK(petool_space_map(&space, moving, 1, false, &cycle, &fault) == PETOOL_FAULT && fault.number == 44);
-    fault.number = 0;
+    check_closed(&space);
+    CHECK(petool_space_map(&space, abc, 3, false, &cycle, &fault) == PETOOL_OK && space.is_open);
+    /* the module of c.exe is not in the set */
+    CHECK(petool_space_map(&space, abc + 1, 2, false, &cycle, &fault) == PETOOL_FAULT && cycle == 77);
+    CHECK(fault.number == 48 && fault.image == 1 && fault.place == PETOOL_PLACE_RVA && fault.at == 0x1030);
     check_closed(&space);
     CHECK(petool_space_map(&space, abc, 0, false, &cycle, &fault) == PETOOL_OK && space.is_open);
     petool_space_close(&space);
@@ -346,7 +355,6 @@ static void check_opened(void)
     v2.at[0] = 'M';
     petool_space_close(&mapped);
     petool_space_close(&opened);
-    fault.number = 0;
     check_closed(&opened);
 }
 

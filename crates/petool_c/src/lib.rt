@@ -46,8 +46,6 @@ mod space;
 mod sum;
 mod symbol;
 mod tables;
-#[cfg(test)]
-mod tests;
 mod tls;
 mod trust_finding;
 mod unbound;
