@@ -37,7 +37,7 @@ for _name in ("texts", "views"):
 #: How many cases of each kind there are.
 COUNTS = {
     "head": 93, "layout": 34, "find": 28, "tables": 172, "check": 33, "dump": 49, "object": 102, "begins": 81,
-    "rebase": 43, "rebased": 8, "map": 14, "faults": 1, "kind": 31, "names": 1,
+    "rebase": 43, "rebased": 8, "map": 14, "faults": 1, "kind": 35, "names": 1,
     "show": 70, "json": 66, "refusal": 51, "at": 99,
 }  # fmt: skip
 

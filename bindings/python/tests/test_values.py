@@ -168,6 +168,8 @@ KINDS = [
     # such a header of version 1, and one of another class, are of no kind that has a name here
     (struct.pack("<HHHHI", 0, 0xFFFF, 1, 0x8664, 0) + bytes.fromhex("c7a1bad1eebaa94baf20faf66aa4dcb8"), None, None),
     (struct.pack("<HHHHI", 0, 0xFFFF, 2, 0x8664, 0) + bytes.fromhex("38feb30ca5d9ab4dac9bd6b6222653c2"), None, None),
+    # and so is one whose class has another last byte
+    (struct.pack("<HHHHI", 0, 0xFFFF, 2, 0x8664, 0) + bytes.fromhex("c7a1bad1eebaa94baf20faf66aa4dcb9") + bytes(80), None, None),
     (bytes(20), None, None),
 ]
 

@@ -14,15 +14,12 @@ use pe_view::Fault;
 /// The number of the fault of a file that does not begin as an archive.
 const NO_ARCHIVE: u16 = 300;
 
-/// How many of its first bytes show what a file is.
-const KIND_BYTES: usize = 16;
-
 /// What a file is that was refused because it does not begin as an archive, by its first bytes.
 fn kind_instead(file: &[u8], fault: &Fault) -> Option<FileKind> {
     if fault.number != NO_ARCHIVE {
         return None;
     }
-    file_kind(&file[..file.len().min(KIND_BYTES)])
+    file_kind(file)
 }
 
 /// Adds the row of a file's fault, if there is one: `Fault 304: Name of a member at 0x8: it leads to no text`.

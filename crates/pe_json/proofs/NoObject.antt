@@ -42,7 +42,7 @@ no_big : (file : List ℕ) → num (byte_of file) 0 2 ≡ 0x5a4d → begins_big_
 no_big file mark =
     let more = num (byte_of file) 2 2 in
     let whole : num (byte_of file) 0 4 ≡ num (byte_of file) 0 2 + 65536 * more = omega arith in
-    and_false (nat_le 16 (length file)) _ (rw (ne_eqb (num (byte_of file) 0 4) 0xffff0000 (λ is. absurd (omega (arith, is, whole, mark)))) refl)
+    and_false (nat_le 28 (length file)) _ (rw (ne_eqb (num (byte_of file) 0 4) 0xffff0000 (λ is. absurd (omega (arith, is, whole, mark)))) refl)
 
 -- a file that begins with the number of `MZ` is no object
 not_object : (file : List ℕ) → num (byte_of file) 0 2 ≡ 0x5a4d → is_object (kind_of file) ≡ false

@@ -1,9 +1,9 @@
 -- What the lines of refused images have in common if their files look alike.
-use Rattle.std.proofs.Common.{◌≡◌, ◌∙◌, ℕ, ◌+◌, Bool, true, false, List, [], ◌∷◌, ◌++◌, codes, take, length, map, Option, None, Some, refl, sym, ap, ap₂, arith}
+use Rattle.std.proofs.Common.{◌≡◌, ◌∙◌, ℕ, ◌+◌, Bool, true, false, List, [], ◌∷◌, ◌++◌, length, map, Option, None, Some, refl, sym, ap, ap₂, arith}
 use Rattle.std.specs.Prelude.{nat_le, nat_lt, is_none, option_map, if◌then◌else◌}
 use Rattle.std.specs.List.{list_all}
 use Rattle.std.specs.Option.{option_or}
-use Rattle.std.proofs.lemmas.Bool.{false≢true, and_parts}
+use Rattle.std.proofs.lemmas.Bool.{and_parts}
 use Rattle.std.proofs.lemmas.Option.{same_Some}
 use Rattle.coff_read.specs.ImageNames.{section_name, image_strings}
 use Rattle.pe_view.specs.Faults.{Test, first_standing}
@@ -18,9 +18,9 @@ use Rattle.pe_layout.specs.Image.{LaidOut}
 use Rattle.pe_layout.specs.Piece.{end_of}
 use Rattle.pe_layout.specs.SectionFaults.{sections_tests, placing_tests}
 use Rattle.pe_detail.specs.FaultDetail.{fault_detail, detail_at, image_detail}
-use Rattle.pe_text.specs.FileKind.{begins_with, begins_object, begins_import, begins_big_object, is_image, is_object, is_read, is_text, kind_name, kind_of}
+use Rattle.pe_text.specs.FileKind.{is_object, is_read, kind_name, kind_of}
 use Rattle.pe_text.specs.declared.file_beginning.FileKind.{FileKind}
-use Rattle.pe_text.specs.declared.file_beginning.FileKind.TheVariants.{Image, Elf, Archive, ThinArchive, Text, Object, ImportObject, BigObject}
+use Rattle.pe_text.specs.declared.file_beginning.FileKind.TheVariants.{Image}
 use Rattle.pe_text.specs.declared.outcome.Outcome.TheVariants.{Refused}
 use Rattle.pe_reach.specs.Views.{LookAlike}
 use Rattle.pe_json.specs.ImageLine.{head_members}
@@ -30,43 +30,9 @@ use Rattle.pe_json.specs.FileLine.{whole_tables, laid_out_tables, image_members,
 use Rattle.pe_json.proofs.SameLines.{same_head}
 
 -- ---- what they are instead
--- no later kind is an image
-later : (b c d e g h i : Bool)
-    → is_image (if b then Some Elf else (if c then Some Archive else (if d then Some ThinArchive else (if e then Some Text
-    else (if g then Some Object else (if h then Some ImportObject else (if i then Some BigObject else None))))))) ≡ false
-later true c d e g h i = refl
-later false true d e g h i = refl
-later false false true e g h i = refl
-later false false false true g h i = refl
-later false false false false true h i = refl
-later false false false false false true i = refl
-later false false false false false false true = refl
-later false false false false false false false = refl
-
-first_kind : (b : Bool) (others : Option FileKind) → is_image others ≡ false → (if b then Some Image else others) ≡ Some Image → b ≡ true
-first_kind true others none is = refl
-first_kind false others none is = absurd (false≢true (sym none ∙ ap is_image is))
-
-begins_image : (f : List ℕ) → kind_of f ≡ Some Image → begins_with f (codes "MZ") ≡ true
-begins_image f is =
-    first_kind (begins_with f (codes "MZ")) _
-    (later (begins_with f (127 ∷ codes "ELF")) (begins_with f (codes "!<arch>" ++ 10 ∷ [])) (begins_with f (codes "!<thin>" ++ 10 ∷ [])) (is_text f) (begins_object f) (begins_import f) (begins_big_object f)) is
-
-taken : (f : List ℕ) → begins_with f (codes "MZ") ≡ true → begins_with (take 16 f) (codes "MZ") ≡ true
-taken [] is = is
-taken (x ∷ []) is = is
-taken (x ∷ y ∷ bytes) is = is
-
-chosen : (b : Bool) (others : Option FileKind) → b ≡ true → (if b then Some Image else others) ≡ Some Image
-chosen b others is = ap (λ (x : Bool). if x then Some Image else others) is
-
--- the first bytes show an image too
-first_bytes : (f : List ℕ) → kind_of f ≡ Some Image → kind_of (take 16 f) ≡ Some Image
-first_bytes f is = chosen (begins_with (take 16 f) (codes "MZ")) _ (taken f (begins_image f is))
-
 same_kind : (f g : List ℕ) (fault : Fault) → LookAlike f g → kind_of_refused fault f ≡ kind_of_refused fault g
 same_kind f g fault look =
-    ap (λ (kind : Option FileKind). option_map kind_name (if is_read fault.number kind then None else kind)) (first_bytes f look.kind_f ∙ sym (first_bytes g look.kind_g))
+    ap (λ (kind : Option FileKind). option_map kind_name (if is_read fault.number kind then None else kind)) (look.kind_f ∙ sym look.kind_g)
 
 -- ---- which have headers without a fault
 -- the number of each fault

@@ -15,7 +15,7 @@ use std::rt::Files;
 const FIRST_BYTES: usize = 1 << 12;
 
 /// How many of its first bytes show the kind of a file.
-const KIND_BYTES: usize = 16;
+const KIND_BYTES: usize = 28;
 
 /// The source of the bytes.
 #[derive(Drop)]

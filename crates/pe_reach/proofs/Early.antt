@@ -18,9 +18,9 @@ use Rattle.coff_read.specs.FormFaults as form_faults
 use Rattle.coff_read.specs.Forms.{Form}
 use Rattle.coff_read.specs.ObjectFaults.{object_tests}
 use Rattle.pe_text.specs.FileKind.{is_machine, begins_big_object, is_object, kind_of}
-use Rattle.pe_reach.specs.Reach.{Begins, Refuse}
+use Rattle.pe_reach.specs.Reach.{AgreeBefore, Begins, Refuse}
 use Rattle.pe_reach.specs.Views.{RefuseView}
-use Rattle.pe_reach.proofs.Headers.{num_agrees}
+use Rattle.pe_reach.proofs.Headers.{num_agrees, part_agrees}
 use Rattle.pe_reach.proofs.Marks.{object_by_mark}
 
 -- a fault of the headers is the first of all
@@ -53,20 +53,27 @@ numbers_agree : (begin : List ℕ) (len : ℕ) (file : List ℕ) → Begins begi
 numbers_agree begin len file b place width within =
     num_agrees (length begin) (byte_of file) (byte_of begin) (λ k lt. sym (get_or-take (length begin) file k 0 (omega (arith, lt))) ∙ ap (λ (l : List ℕ). get_or l k 0) b.begins) place width within
 
+-- a file has the bytes with which it begins
+begin_agrees : (begin : List ℕ) (len : ℕ) (file : List ℕ) → Begins begin len file → AgreeBefore (length begin) file begin
+begin_agrees begin len file b = record {
+  tails = let same = ap (λ (l : List ℕ). length l) b.begins in let taken = length-take (length begin) file in omega (arith, same, taken);
+  bytes = λ k lt. sym (get_or-take (length begin) file k 0 lt) ∙ ap (λ (l : List ℕ). get_or l k 0) b.begins;
+}
+
 -- files that begin alike are both big objects, or neither
-same_big : (begin : List ℕ) (len : ℕ) (file : List ℕ) → 16 ≤ length begin → Begins begin len file → begins_big_object file ≡ begins_big_object begin
+same_big : (begin : List ℕ) (len : ℕ) (file : List ℕ) → 28 ≤ length begin → Begins begin len file → begins_big_object file ≡ begins_big_object begin
 same_big begin len file long b =
-    let both : 16 ≤ length file = omega (arith, long, ap (λ (l : List ℕ). length l) b.begins, length-take (length begin) file) in
+    let both : 28 ≤ length file = omega (arith, long, ap (λ (l : List ℕ). length l) b.begins, length-take (length begin) file) in
     rw (
-      le-leb 16 (length file) both,
-      le-leb 16 (length begin) long,
+      le-leb 28 (length file) both,
+      le-leb 28 (length begin) long,
       numbers_agree begin len file b 0 4 (omega (arith, long)),
       numbers_agree begin len file b 4 2 (omega (arith, long)),
-      numbers_agree begin len file b 12 4 (omega (arith, long)),
+      part_agrees (length begin) file begin (begin_agrees begin len file b) 12 16 (omega (arith, long)),
     ) refl
 
 -- files that begin alike are both checked as objects, or neither
-same_kind : (begin : List ℕ) (len : ℕ) (file : List ℕ) → 16 ≤ length begin → Begins begin len file → is_object (kind_of file) ≡ is_object (kind_of begin)
+same_kind : (begin : List ℕ) (len : ℕ) (file : List ℕ) → 28 ≤ length begin → Begins begin len file → is_object (kind_of file) ≡ is_object (kind_of begin)
 same_kind begin len file long b =
     let both : 2 ≤ length file = omega (arith, long, ap (λ (l : List ℕ). length l) b.begins, length-take (length begin) file) in
     object_by_mark file both
@@ -91,14 +98,14 @@ refuse_large begin len None is = tt
 refuse_large begin len (Some fault) is = λ file b. in_image file fault (is file b.size)
 
 -- a fault of each image, or of each object, that begins so
-pub refuse_image : (begin : List ℕ) (len : ℕ) (fault : Option Fault) → 16 ≤ length begin → is_object (kind_of begin) ≡ false → IfSome fault (λ fault. Refuse len begin fault) → IfSome fault (λ fault. RefuseView len begin fault)
+pub refuse_image : (begin : List ℕ) (len : ℕ) (fault : Option Fault) → 28 ≤ length begin → is_object (kind_of begin) ≡ false → IfSome fault (λ fault. Refuse len begin fault) → IfSome fault (λ fault. RefuseView len begin fault)
 refuse_image begin len None long other refuse = tt
 refuse_image begin len (Some fault) long other refuse = λ file b.
     subst (λ (object : Bool). first_standing (if object then form_faults.object_tests (form_in file) file else image_tests 0 file) ≡ Some fault)
     (sym (same_kind begin len file long b ∙ other))
     (refuse file b)
 
-pub refuse_object : (begin : List ℕ) (len : ℕ) (fault : Option Fault) → 16 ≤ length begin → is_object (kind_of begin) ≡ true
+pub refuse_object : (begin : List ℕ) (len : ℕ) (fault : Option Fault) → 28 ≤ length begin → is_object (kind_of begin) ≡ true
     → IfSome fault (λ fault. (file : List ℕ) → length file ≡ len → first_standing (form_faults.object_tests (form_in file) file) ≡ Some fault) → IfSome fault (λ fault. RefuseView len begin fault)
 refuse_object begin len None long object refuse = tt
 refuse_object begin len (Some fault) long object refuse = λ file b.

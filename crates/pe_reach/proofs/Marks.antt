@@ -1,5 +1,5 @@
 -- A file is checked as an object by its first bytes.
-use Rattle.std.proofs.Common.{◌≡◌, ℕ, ◌+◌, ◌*◌, ◌≤◌, Bool, true, false, List, [], ◌∷◌, ◌++◌, length, refl, sym, ◌∙◌, ap, arith, inl, inr}
+use Rattle.std.proofs.Common.{◌≡◌, ℕ, ◌+◌, ◌*◌, ◌≤◌, Bool, true, false, List, [], ◌∷◌, ◌++◌, length, take, refl, sym, ◌∙◌, ap, arith, inl, inr}
 use Rattle.std.specs.Prelude.{◌==◌, ◌&&◌, ◌||◌, nat_le, nat_lt, codes, Some, None, if◌then◌else◌}
 use Rattle.std.specs.List.{list_all}
 use Rattle.std.proofs.lemmas.Bool.{and_parts, and_right, or_cases, ne_eqb, eqb-true, leb-true, le-leb}
@@ -65,13 +65,13 @@ mark a b x y more is =
 
 -- the first four bytes of a big object, and not its version
 no_big : (file : List ℕ) → (num (byte_of file) 0 4 ≡ 0xffff0000 → ⊥) → begins_big_object file ≡ false
-no_big file other = and_right (nat_le 16 (length file)) _ (rw (ne_eqb (num (byte_of file) 0 4) 0xffff0000 other) refl)
+no_big file other = and_right (nat_le 28 (length file)) _ (rw (ne_eqb (num (byte_of file) 0 4) 0xffff0000 other) refl)
 
 -- an import object has the version 0
 no_version : (file : List ℕ) → num (byte_of file) 4 2 ≡ 0 → begins_big_object file ≡ false
 no_version file zero_version =
     let none : nat_le 2 (num (byte_of file) 4 2) ≡ false = rw zero_version refl in
-    and_right (nat_le 16 (length file)) _ (and_right (num (byte_of file) 0 4 == 0xffff0000) _ (rw none refl))
+    and_right (nat_le 28 (length file)) _ (and_right (num (byte_of file) 0 4 == 0xffff0000) _ (rw none refl))
 
 short_version : (file : List ℕ) → begins_import file ≡ true → num (byte_of file) 4 2 ≡ 0
 short_version [] is = refl
@@ -111,9 +111,9 @@ object_of a b rest =
     (λ is. let m = mark a b 33 60 _ is in none (omega (arith, value, m.0, m.1)) (omega (arith, value, m.0, m.1)))
     (λ is. let m = mark a b 33 60 _ is in none (omega (arith, value, m.0, m.1)) (omega (arith, value, m.0, m.1)))
     (λ is.
-    let all = and_parts (nat_lt 0 (length file)) (list_all is_text_byte file) is in
-    let first = and_parts (is_text_byte a) (is_text_byte b && list_all is_text_byte rest) all.1 in
-    let second = and_parts (is_text_byte b) (list_all is_text_byte rest) first.1 in
+    let all = and_parts (nat_lt 0 (length file)) (list_all is_text_byte (take 16 file)) is in
+    let first = and_parts (is_text_byte a) (is_text_byte b && list_all is_text_byte (take 14 rest)) all.1 in
+    let second = and_parts (is_text_byte b) (list_all is_text_byte (take 14 rest)) first.1 in
     let low = text_byte a first.0 in
     let high = text_byte b second.0 in
     none (omega (arith, value, low.0, high.0)) (omega (arith, value, low.1, high.1)))

@@ -127,7 +127,7 @@ pub fn early_fault(begin: &[u8], len: u64) -> Option<Fault>
 }
 
 /// How many first bytes say whether a file is checked as an object.
-const KIND_BYTES: usize = 16;
+const KIND_BYTES: usize = 28;
 
 /// The fault of each file of `len` bytes that begins with these, which is checked as views check it: that of [`object_size_fault`]
 /// if it begins like an object, and otherwise that of [`early_fault`]. `None` does not mean that it has no fault.

@@ -1,5 +1,6 @@
 pub mod Adding
 pub mod HexDigits
+pub mod KindRows
 pub mod Numbering
 pub mod Pieces
 pub mod Plain

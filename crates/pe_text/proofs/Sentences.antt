@@ -1,5 +1,5 @@
 -- A fault in words is short.
-use Rattle.std.proofs.Common.{ℕ, ◌≡◌, ◌+◌, ◌≤◌, Bool, true, List, [], ◌∷◌, ◌++◌, length, take, refl, arith, ap, sym, ◌∙◌, inl, inr, length-append}
+use Rattle.std.proofs.Common.{ℕ, ◌≡◌, ◌+◌, ◌≤◌, Bool, true, List, [], ◌∷◌, ◌++◌, length, take, refl, arith, ◌∙◌, inl, inr, length-append}
 use Rattle.std.specs.Prelude.{nat_le, ◌==◌, codes, unwrap_or}
 use Rattle.std.specs.List.{list_all}
 use Rattle.std.proofs.lemmas.Bool.{cases_Bool, leb-true, and_parts}

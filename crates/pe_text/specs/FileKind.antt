@@ -1,7 +1,8 @@
 -- The kind of a file by its first bytes.
 use Rattle.std.specs.Prelude.{ℕ, ◌==◌, ◌&&◌, ◌||◌, Bool, true, false, nat_lt, nat_le, nat_eq, if◌then◌else◌, List, [], ◌∷◌, ◌++◌, codes, length, take, Option, None, Some}
 use Rattle.std.specs.List.{list_all, starts_with}
-use Rattle.pe_view.specs.Number.{num, byte_of}
+use Rattle.std.specs.Str.{bytes_eq}
+use Rattle.pe_view.specs.Number.{num, byte_of, part}
 use Rattle.pe_view.specs.Faults.{Test}
 use Rattle.pe_text.specs.declared.file_beginning.FileKind.{FileKind}
 use Rattle.pe_text.specs.declared.file_beginning.FileKind.TheVariants.{Image, Elf, Archive, ThinArchive, Text, Object, ImportObject, BigObject}
@@ -13,8 +14,9 @@ begins_with = starts_with nat_eq
 abbrev pub is_text_byte : ℕ → Bool
 is_text_byte byte = (nat_le 0x20 byte && nat_le byte 0x7e) || (byte == 9 || (byte == 10 || byte == 13))
 
+-- it has bytes, and its first 16 are text
 abbrev pub is_text : List ℕ → Bool
-is_text bytes = nat_lt 0 (length bytes) && list_all is_text_byte bytes
+is_text bytes = nat_lt 0 (length bytes) && list_all is_text_byte (take 16 bytes)
 
 -- the Machine field of an object: I386, AMD64, ARM64, ARM or ARMNT
 abbrev pub is_machine : ℕ → Bool
@@ -27,11 +29,15 @@ begins_object bytes = nat_le 2 (length bytes) && is_machine (num (byte_of bytes)
 abbrev pub begins_import : List ℕ → Bool
 begins_import bytes = begins_with bytes (0 ∷ 0 ∷ 255 ∷ 255 ∷ 0 ∷ 0 ∷ [])
 
--- the same first four bytes, a version of 2 or more, and the class of `/bigobj` objects, as far as it is in the first 16 bytes
+-- the class of `/bigobj` objects, {D1BAA1C7-BAEE-4BA9-AF20-FAF66AA4DCB8}
+abbrev pub big_class : List ℕ
+big_class = 0xc7 ∷ 0xa1 ∷ 0xba ∷ 0xd1 ∷ 0xee ∷ 0xba ∷ 0xa9 ∷ 0x4b ∷ 0xaf ∷ 0x20 ∷ 0xfa ∷ 0xf6 ∷ 0x6a ∷ 0xa4 ∷ 0xdc ∷ 0xb8 ∷ []
+
+-- the same first four bytes, a version of 2 or more, and that class (ANON_OBJECT_HEADER_BIGOBJ)
 abbrev pub begins_big_object : List ℕ → Bool
 begins_big_object bytes =
-    nat_le 16 (length bytes)
-    && (num (byte_of bytes) 0 4 == 0xffff0000 && (nat_le 2 (num (byte_of bytes) 4 2) && num (byte_of bytes) 12 4 == 0xd1baa1c7))
+    nat_le 28 (length bytes)
+    && (num (byte_of bytes) 0 4 == 0xffff0000 && (nat_le 2 (num (byte_of bytes) 4 2) && bytes_eq (part bytes 12 16) big_class))
 
 -- the kind of object that may begin with these bytes
 abbrev pub object_kind : List ℕ → Option FileKind
@@ -122,6 +128,6 @@ is_read number kind =
     else (if nat_le 63 number && nat_le number 72 then is_object kind
     else true))
 
--- what a file refused with a fault of this number is instead, by its first 16 bytes
+-- what a file refused with a fault of this number is instead, by its first bytes
 abbrev pub other_kind : ℕ → List ℕ → Option FileKind
-other_kind number first = if is_read number (kind_of (take 16 first)) then None else kind_of (take 16 first)
+other_kind number first = if is_read number (kind_of first) then None else kind_of first

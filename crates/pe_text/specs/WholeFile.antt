@@ -1,5 +1,5 @@
 -- How a file is read, piece by piece.
-use Rattle.std.specs.Prelude.{ℕ, ◌≡◌, ◌+◌, ◌≤◌, ◌^◌, Bool, true, false, List, ◌++◌, length, take, Result, MatchResult}
+use Rattle.std.specs.Prelude.{ℕ, ◌≡◌, ◌+◌, ◌≤◌, Bool, true, false, List, ◌++◌, length, take, Result, MatchResult}
 use Rattle.pe_text.specs.declared.outcome.ToolError.{ToolError}
 use Rattle.pe_text.specs.Engine.{FailsAfter}
 

@@ -20,7 +20,7 @@ pub enum FileKind {
     Archive,
     /// It begins with `!<thin>` and a line feed: an archive that names its members' files and does not hold them.
     ThinArchive,
-    /// It has bytes, and its first ones are printable ASCII, tabs and line ends.
+    /// It has bytes, and the first 16 are printable ASCII, tabs and line ends.
     Text,
     /// It begins with the number of a machine for which COFF objects are made.
     Object,
@@ -87,11 +87,14 @@ fn all_text(bytes: &[u8]) -> bool
     bytes.iter().all(|byte| is_text_byte(*byte))
 }
 
-/// Whether a text file may begin with these bytes.
+/// How many first bytes show a text.
+const TEXT_BYTES: usize = 16;
+
+/// Whether a text file may begin with these bytes, of which the first 16 count.
 fn is_text(first: &[u8]) -> bool
     ensures { result ≡ is_text first.now }
 {
-    !first.is_empty() && all_text(first)
+    !first.is_empty() && all_text(&first[..first.len().min(TEXT_BYTES)])
 }
 
 /// Whether COFF objects are made for the machine of this number.
@@ -122,16 +125,16 @@ fn begins_import(first: &[u8]) -> bool
     first.starts_with(b"\x00\x00\xff\xff\x00\x00")
 }
 
-/// The class in the header of a `/bigobj` object, as far as it is among the first 16 bytes.
-const BIG_OBJECT_CLASS: u32 = 0xd1ba_a1c7;
+/// The class in the header of a `/bigobj` object: {D1BAA1C7-BAEE-4BA9-AF20-FAF66AA4DCB8}.
+const BIG_OBJECT_CLASS: &[u8] = b"\xc7\xa1\xba\xd1\xee\xba\xa9\x4b\xaf\x20\xfa\xf6\x6a\xa4\xdc\xb8";
 
-/// Whether a `/bigobj` object may begin with these bytes: 0 and ffff as an import object has, a version of 2 or more, and the class
-/// of such objects, which is tested as far as it is among the first 16 bytes.
+/// Whether a `/bigobj` object may begin with these bytes (`ANON_OBJECT_HEADER_BIGOBJ` of winnt.h): 0 and ffff as an import object
+/// has, a version of 2 or more, and from offset 12 on the class of such objects.
 fn begins_big_object(first: &[u8]) -> bool
     ensures { result ≡ begins_big_object first.now }
 {
     let view = View::new(first);
-    match (view.u32_at(0), view.u16_at(4), view.u32_at(12)) {
+    match (view.u32_at(0), view.u16_at(4), view.slice(12, 16)) {
         (Some(mark), Some(version), Some(class)) => {
             mark == 0xffff_0000 && version >= 2 && class == BIG_OBJECT_CLASS
         }
@@ -139,7 +142,7 @@ fn begins_big_object(first: &[u8]) -> bool
     }
 }
 
-/// The kind of a file by its first bytes, however many they are; `None` if they are those of no kind.
+/// The kind of a file by its first 28 bytes, or by all if it has fewer: `None` if they are those of no kind. `first` may have more.
 ///
 /// The kinds are tested in the order of [`FileKind`], so that a file whose first bytes may begin both a text and an object is a
 /// text.
@@ -191,9 +194,6 @@ pub fn is_object(file: &[u8]) -> bool
     is_object_kind(file_kind(file))
 }
 
-/// How many of its first bytes show what a refused file is.
-const KIND_BYTES: usize = 16;
-
 /// Whether a file of this kind is one that is tested for a fault of this number; true for a number of which no single file is. By 61
 /// and 62, which are about the header, a big object is refused where only a plain one is read.
 fn is_read(number: u16, kind: Option<FileKind>) -> bool
@@ -207,12 +207,12 @@ fn is_read(number: u16, kind: Option<FileKind>) -> bool
     }
 }
 
-/// What a file that was refused with a fault is instead, by its first 16 bytes: `None` if they are those of no kind, or of the kind
+/// What a file that was refused with a fault is instead, by its first 28 bytes: `None` if they are those of no kind, or of the kind
 /// that is tested for this fault. `first` has these bytes, or all if the file has fewer, and may have more.
 pub fn other_kind(fault: &Fault, first: &[u8]) -> Option<FileKind>
     ensures { result ≡ other_kind fault.now.number first.now }
 {
-    let kind = file_kind(&first[..first.len().min(KIND_BYTES)]);
+    let kind = file_kind(first);
     if is_read(fault.number, kind) {
         None
     } else {

@@ -1,4 +1,4 @@
-use Rattle.std.proofs.Common.{◌≡◌, ◌≤◌, ◌-◌, ◌∙◌, arith, sym, length, take}
+use Rattle.std.proofs.Common.{◌≡◌, ◌-◌, arith, take}
 use Rattle.std.proofs.lemmas.List.{take_all}
 use Rattle.pe_text.specs.FaultWords.{hex_text}
 use Rattle.pe_text.specs.Text.{hex}
