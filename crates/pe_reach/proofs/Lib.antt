@@ -1,4 +1,5 @@
 pub mod Early
+pub mod EarlyRows
 pub mod Faults
 pub mod Headers
 pub mod Images

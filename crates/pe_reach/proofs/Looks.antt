@@ -1,6 +1,6 @@
 -- Files that look alike.
 use Rattle.std.proofs.Common.{◌≡◌, ℕ, ◌+◌, ◌-◌, ◌<◌, ◌≤◌, ◌^◌, Bool, true, false, List, [], ◌∷◌, ◌++◌, length, take, drop, Some, Result, Ok, Err, refl, sym, ◌∙◌, ap, subst, arith, inl, inr, length-append, append_assoc, append-nil}
-use Rattle.std.specs.Prelude.{◌⊎◌, ◌&&◌, ◌==◌, codes, min, replicate, Option, None, MatchResult}
+use Rattle.std.specs.Prelude.{◌⊎◌, ◌&&◌, ◌==◌, codes, max, min, replicate, Option, None, MatchResult}
 use Rattle.std.proofs.lemmas.List.{take-append-drop, length-replicate}
 use Rattle.std.proofs.Math.Seq.{take-append_seam}
 use Rattle.std.proofs.lemmas.Bool.{false≢true, cases_lt}
@@ -47,6 +47,20 @@ shown len bytes mark decide name = λ file b.
       answers = same;
       names = ap (λ h. names_under file h) same.headers ∙ name.names file b;
     }
+
+-- the first bytes of an image and those that follow them up to the end that decides the answers, or as many as there are
+pub settled : (len : ℕ) (begin more : List ℕ) (end : ℕ) → begins_with begin (codes "MZ") ≡ true → length begin ≤ len → end ≤ len
+    → ((rest : List ℕ) → end ≤ length (begin ++ rest) → length (begin ++ rest) ≤ len → Decide len (begin ++ rest))
+    → length (begin ++ more) ≡ max (length begin) end → IsSettled len (begin ++ more)
+settled len begin more end mark fits least decides size = inr (record {
+  mark = mark_append begin more mark;
+  fits = omega (arith, size, fits, least);
+  decides = λ rest within.
+      let same : (begin ++ more) ++ rest ≡ begin ++ (more ++ rest) = append_assoc begin more rest in
+      let enough : end ≤ length ((begin ++ more) ++ rest) = omega (arith, size, length-append (begin ++ more) rest) in
+      subst (λ (l : List ℕ). Decide len l) (sym same)
+      (decides (more ++ rest) (subst (λ (l : List ℕ). end ≤ length l) same enough) (subst (λ (l : List ℕ). length l ≤ len) same within));
+})
 
 -- more bytes leave the headers as they are
 head_grows : (len : ℕ) (first more : List ℕ) → Settle len first → length (first ++ more) ≤ len → head_of (first ++ more) ≡ head_of first

@@ -1,13 +1,15 @@
 -- Which first bytes of a file decide its headers, its image and its faults.
-use Rattle.std.specs.Prelude.{◌≡◌, ℕ, ◌+◌, ◌<◌, max, min, ◌≤◌, ◌^◌, ◌⊎◌, nat_lt, if◌then◌else◌, Bool, List, take, [], ◌∷◌, length, Some}
-use Rattle.pe_view.specs.Number.{byte_of}
-use Rattle.pe_view.specs.Faults.{first_standing}
+use Rattle.std.specs.Prelude.{◌≡◌, ℕ, ◌+◌, ◌<◌, max, min, ◌≤◌, ◌^◌, ◌==◌, ◌&&◌, ◌⊎◌, not, nat_lt, nat_le, if◌then◌else◌, Bool, List, take, [], ◌∷◌, length, Option, None, Some, is_none}
+use Rattle.pe_view.specs.Number.{num, byte_of}
+use Rattle.pe_view.specs.Faults.{Test, test, first_standing}
 use Rattle.pe_head.specs.declared.section.SectionHeader.{SectionHeader}
 use Rattle.pe_head.specs.Section.{rawlen}
 use Rattle.pe_head.specs.Head.{head_of, optional_start, section_start, coff_field}
 use Rattle.pe_layout.specs.Image.{image_of_file}
 use Rattle.pe_layout.specs.SectionFaults.{layout_tests}
+use Rattle.pe_head.specs.HeaderFaults.{head_tests}
 use Rattle.pe_view.specs.declared.fault.Fault.{Fault}
+use Rattle.pe_view.specs.declared.fault.Place.TheVariants.{File}
 use Rattle.pe_image.specs.ImageTests.{image_tests}
 use Rattle.pe_text.specs.Engine.{IsWhole}
 
@@ -59,3 +61,18 @@ IsEnough ended len bytes = IsWhole ended bytes ⊎ Decide len bytes
 -- bytes refuse each file of a length that begins with them, by a fault
 abbrev pub Refuse : ℕ → List ℕ → Fault → Type 0
 Refuse len bytes fault = (file : List ℕ) → Begins bytes len file → first_standing (image_tests 0 file) ≡ Some fault
+
+-- how many first bytes of a file of a length decide its answers, as its first bytes say it: those that the headers name, if all headers
+-- are among its first bytes and have none of faults 1 to 12, and the file is as long as they say, and not too large
+abbrev pub needed_of : List ℕ → ℕ → Option ℕ
+needed_of begin len =
+    if is_none (first_standing (head_tests 0 begin)) && (nat_le (headers_end begin) (length begin) && (nat_le (image_end begin) len && nat_le len (2 ^ 32)))
+    then Some (image_end begin) else None
+
+-- the tests of an image's file that its size and its first bytes decide: it is too large; it does not begin with `MZ`, and is long
+-- enough for an MS-DOS header, so that it has not fault 2 before
+abbrev pub early_tests : List ℕ → ℕ → List Test
+early_tests begin len =
+    test 1 0 (File (2 ^ 32)) (nat_lt (2 ^ 32) len)
+    ∷ test 3 0 (File 0) (nat_le 2 (length begin) && (nat_le 64 len && not (num (byte_of begin) 0 2 == 0x5a4d)))
+    ∷ []

@@ -1,7 +1,8 @@
 -- What a view sees of an image's file, of which only a beginning is read.
-use Rattle.std.specs.Prelude.{ℕ, ◌≡◌, ◌⊎◌, Bool, List, length, map, Option, None, Some}
+use Rattle.std.specs.Prelude.{ℕ, ◌≡◌, ◌^◌, ◌⊎◌, Bool, nat_lt, if◌then◌else◌, List, [], ◌∷◌, length, map, Option, None, Some}
 use Rattle.pe_view.specs.declared.fault.Fault.{Fault}
-use Rattle.pe_view.specs.Faults.{Test, first_standing}
+use Rattle.pe_view.specs.declared.fault.Place.TheVariants.{File}
+use Rattle.pe_view.specs.Faults.{Test, test, first_standing}
 use Rattle.pe_head.specs.declared.headers.Headers.{Headers}
 use Rattle.pe_head.specs.Head.{head_of}
 use Rattle.coff_read.specs.ImageNames.{image_strings, section_name}
@@ -12,7 +13,7 @@ use Rattle.pe_text.specs.declared.file_beginning.FileKind.TheVariants.{Image}
 use Rattle.pe_text.specs.FileKind.{kind_of, tests_by_kind}
 use Rattle.pe_text.specs.declared.outcome.Outcome.{Outcome}
 use Rattle.pe_text.specs.Engine.{IsWhole}
-use Rattle.pe_reach.specs.Reach.{Begins, SameAnswers}
+use Rattle.pe_reach.specs.Reach.{Begins, SameAnswers, early_tests}
 use Rattle.pe_reach.specs.declared.view_file.ViewFile.{ViewFile}
 
 -- the names of the sections in a file with these headers
@@ -38,6 +39,12 @@ IsSeen ended len bytes told = (IsWhole ended bytes × (told ≡ length bytes)) �
 -- the tests of a file as views check it: those of an object if its first bytes are those of one, otherwise those of an image
 abbrev pub view_tests : List ℕ → List Test
 view_tests file = tests_by_kind file (object_tests (form_in file) file) (image_tests 0 file)
+
+-- the tests of a file as views check it that its size and its first bytes decide: none if these are fewer than the 28 that say whether
+-- it is an object
+abbrev pub early_view_tests : List ℕ → ℕ → List Test
+early_view_tests begin len =
+    if nat_lt (length begin) 28 then [] else tests_by_kind begin (test 61 0 (File len) (nat_lt (2 ^ 32) len) ∷ []) (early_tests begin len)
 
 -- bytes refuse each file of a length that begins with them, by a fault
 abbrev pub RefuseView : ℕ → List ℕ → Fault → Type 0

@@ -1,7 +1,7 @@
 //! `needed`: how many first bytes of a file decide its answers; and `early_fault` and `view_fault`: a fault that its first bytes
 //! decide.
 
-ghost use Rattle.std.specs.Prelude.{◌≡◌, ◌≤◌, ◌^◌, ℕ, List, length, max, map, ◌++◌, IfSome, Some, is_some, nat_lt};
+ghost use Rattle.std.specs.Prelude.{◌≡◌, ◌≤◌, ◌^◌, ℕ, List, length, max, map, ◌++◌, IfSome, Some, is_none, is_some, nat_lt};
 ghost use Rattle.std.specs.List.{range_with_len};
 ghost use Rattle.pe_head.specs.Checked.{checked_file};
 ghost use Rattle.coff_read.specs.EitherObject.{form_in};
@@ -10,8 +10,8 @@ ghost use Rattle.coff_read.specs.ObjectFaults.{object_tests};
 ghost use Rattle.pe_view.specs.Faults.{first_standing};
 ghost use Rattle.pe_head.specs.Head.{coff_field, section_at};
 ghost use Rattle.pe_head.specs.HeaderFaults.{head_tests};
-ghost use Rattle.pe_reach.specs.Reach.{headers_end, raw_end, image_end, Decide, Refuse};
-ghost use Rattle.pe_reach.specs.Views.{RefuseView};
+ghost use Rattle.pe_reach.specs.Reach.{headers_end, raw_end, image_end, Decide, Refuse, early_tests, needed_of};
+ghost use Rattle.pe_reach.specs.Views.{RefuseView, early_view_tests};
 
 use pe_head::{CheckedHeaders, check_headers};
 use pe_text::is_object;
@@ -52,7 +52,8 @@ fn raw_end(headers: CheckedHeaders, least: u64) -> u64
 /// The end of the headers of a file that begins with these bytes, and the end of all bytes that its headers name. `None` if they
 /// have one of faults 1 to 12.
 fn ends(begin: &[u8]) -> Option<(u64, u64)>
-    ensures { IfSome result (λ ends. (ends.0 ≡ headers_end begin.now) × (ends.1 ≡ image_end begin.now)) }
+    ensures exact { is_some result ≡ is_none (first_standing (head_tests 0 begin.now)) }
+    ensures ends { IfSome result (λ ends. (ends.0 ≡ headers_end begin.now) × (ends.1 ≡ image_end begin.now)) }
 {
     let headers = check_headers(View::new(begin), 0).ok()?;
     let headers_end = headers_end(headers);
@@ -61,10 +62,11 @@ fn ends(begin: &[u8]) -> Option<(u64, u64)>
 }
 
 /// How many first bytes of a file of `len` bytes decide its answers. Its headers say so, which are read from `begin`, its first
-/// bytes. `None` if these do not hold all headers, the headers have one of faults 1 to 12, or the file is shorter than they say, or
-/// larger than any file may be.
+/// bytes. `None` exactly if these do not hold all headers, the headers have one of faults 1 to 12, or the file is shorter than they
+/// say, or larger than any file may be.
 pub fn needed(begin: &[u8], len: u64) -> Option<u64>
-    ensures { IfSome result (λ end. (end ≤ len) × (len ≤ 2 ^ 32)
+    ensures exact { result ≡ needed_of begin.now len }
+    ensures decides { IfSome result (λ end. (end ≤ len) × (len ≤ 2 ^ 32)
         × ((more : List ℕ) → end ≤ length (begin.now ++ more) → length (begin.now ++ more) ≤ len → Decide len (begin.now ++ more))) }
 {
     let (headers_end, end) = ends(begin)?;
@@ -108,10 +110,12 @@ pub fn object_size_fault(len: u64) -> Option<Fault>
 /// The number that a file begins with if its first bytes are `MZ`.
 const MZ: u16 = 0x5a4d;
 
-/// The fault of each file of `len` bytes that begins with these: 1 if it is larger than any file may be, 3 if it does not begin
-/// with `MZ`. `None` does not mean that it has no fault.
+/// The fault of each file of `len` bytes that begins with these: 1 if it is larger than any file may be, 3 if it has 64 bytes or more
+/// and these are two or more, but not `MZ` first ("PE Format", MS-DOS Stub). `None` exactly if it is neither of these, which does
+/// not mean that the file has no fault.
 pub fn early_fault(begin: &[u8], len: u64) -> Option<Fault>
-    ensures { IfSome result (λ fault. Refuse len begin.now fault) }
+    ensures exact { result ≡ first_standing (early_tests begin.now len) }
+    ensures refuses { IfSome result (λ fault. Refuse len begin.now fault) }
 {
     if len > MOST {
         return size_fault(len);
@@ -130,9 +134,11 @@ pub fn early_fault(begin: &[u8], len: u64) -> Option<Fault>
 const KIND_BYTES: usize = 28;
 
 /// The fault of each file of `len` bytes that begins with these, which is checked as views check it: that of [`object_size_fault`]
-/// if it begins like an object, and otherwise that of [`early_fault`]. `None` does not mean that it has no fault.
+/// if it begins like an object, and otherwise that of [`early_fault`]. `None` exactly if these are fewer than 28 bytes, or there is no
+/// such fault, which does not mean that the file has none.
 pub fn view_fault(begin: &[u8], len: u64) -> Option<Fault>
-    ensures { IfSome result (λ fault. RefuseView len begin.now fault) }
+    ensures exact { result ≡ first_standing (early_view_tests begin.now len) }
+    ensures refuses { IfSome result (λ fault. RefuseView len begin.now fault) }
 {
     if begin.len() < KIND_BYTES {
         return None;

@@ -5,7 +5,7 @@ use Rattle.pe_reach.proofs.sized.run_sized.Goals as goal
 
 pub returns-in-Some-clause-ran : goal.returns-in-Some-clause-ran
 returns-in-Some-clause-ran g c =
-    ran_early g.T.Report.is_text c.requires.refuses c.args.len _ _ _ _ _ _ _ c.write_refusal.result [] c.in-Some.fault (sym (append-nil _)) c.in-Some.ensures (omega arith) c.write_refusal.ensures.puts c.write_refusal.ensures.memory
+    ran_early g.T.Report.is_text c.requires.refuses c.args.len _ _ _ _ _ _ _ c.write_refusal.result [] c.in-Some.fault (sym (append-nil _)) c.in-Some.ensures.refuses (omega arith) c.write_refusal.ensures.puts c.write_refusal.ensures.memory
 
 pub returns-in_err-file-clause-ran : goal.returns-in_err-file-clause-ran
 returns-in_err-file-clause-ran g c =

@@ -2,4 +2,4 @@ use Rattle.pe_page.proofs.Outcomes.{page_refused}
 use Rattle.pe_at.proofs.at_engine.SpotsReportViewReport.early_fault.Goals as goal
 
 pub returns : goal.returns
-returns c = page_refused c.args.len c.args.begin.now c.view_fault.result c.view_fault.ensures
+returns c = page_refused c.args.len c.args.begin.now c.view_fault.result c.view_fault.ensures.refuses
