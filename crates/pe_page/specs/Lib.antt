@@ -7,6 +7,7 @@ pub use Rattle.pe_text.specs.Outcome
 pub use Rattle.pe_text.specs.TextWriter
 pub mod Judged
 pub mod Name
+pub mod Objects
 pub mod Page
 pub mod Places
 pub mod Rows

@@ -1,6 +1,7 @@
 -- The place of an RVA as a page shows it, and its columns.
-use Rattle.std.specs.Prelude.{◌≡◌, ℕ, ◌+◌, ◌-◌, List, [], Option, None, Some, codes, slice_get}
+use Rattle.std.specs.Prelude.{◌≡◌, ℕ, ◌+◌, ◌-◌, List, [], map, take, Option, None, Some, codes, slice_get}
 use denote.Bor.{Bor}
+use Rattle.coff_read.specs.ImageNames.{section_name}
 use Rattle.pe_head.specs.declared.headers.Headers.{Headers}
 use Rattle.pe_head.specs.declared.section.SectionHeader.{SectionHeader}
 use Rattle.pe_layout.specs.declared.locate.Located.{Located}
@@ -8,6 +9,11 @@ use Rattle.pe_layout.specs.declared.locate.Located.TheVariants.{Header, Raw, Zer
 use Rattle.pe_text.specs.Text.{hex_width}
 use Rattle.pe_page.specs.Name.{section_columns}
 use Rattle.pe_page.specs.declared.place.SectionPlace.{SectionPlace}
+
+-- ---- the names of sections
+-- the names of sections in an image with this string table or none, of each as much as decides how it is shown
+abbrev pub names_of : Option (List ℕ) → List SectionHeader → List (List ℕ)
+names_of strings sections = map (λ (section : SectionHeader). take 41 (section_name strings section.name)) sections
 
 -- ---- the place of an RVA
 abbrev text_of : Option (Bor (List ℕ)) → List ℕ

@@ -1,7 +1,9 @@
 //! Flags by name.
 
+ghost use Rattle.std.specs.Prelude.{◌≡◌};
 ghost use Rattle.pe_text.specs.TextWriter.{IsReady};
 ghost use Rattle.pe_page.specs.Page.{AddsSome};
+ghost use Rattle.pe_page.specs.Rows.{permissions};
 
 use crate::cell::blanks;
 use pe_head::{FlagKind, flag_name, section_flag};
@@ -102,8 +104,10 @@ pub(crate) fn write_flags<W: Sink>(
     write_unnamed(text, row, column, unnamed);
 }
 
-/// The permissions of a section, like `r-x`.
-pub fn permissions(flags: u32) -> &'static [u8] {
+/// The permissions of a section by its flags, like `r-x` ("PE Format", Section Flags).
+pub fn permissions(flags: u32) -> &'static [u8]
+    ensures { result.now ≡ permissions flags }
+{
     let read = flags & section_flag::READ != 0;
     let write = flags & section_flag::WRITE != 0;
     let execute = flags & section_flag::EXECUTE != 0;

@@ -39,17 +39,28 @@ fn cut_mark(name: &[u8], limit: usize) -> &'static [u8]
 }
 
 /// The beginning of a name that is long enough to show whether it is a section's or a module's that has to be cut.
-fn beginning(name: &[u8], limit: usize) -> &[u8] {
-    name.get(..=limit).unwrap_or(name)
+fn beginning(name: &[u8], limit: usize) -> &[u8]
+    ensures { result.now ≡ take (limit + 1) name.now }
+{
+    if name.len() <= limit {
+        return name;
+    }
+    &name[..=limit]
 }
 
 /// As much of a section's name as decides how it is shown.
-pub(crate) fn section_beginning(name: &[u8]) -> &[u8] {
+pub(crate) fn section_beginning(name: &[u8]) -> &[u8]
+    ensures value { result.now ≡ take 41 name.now }
+    ensures shown { section_text result.now ≡ section_text name.now }
+{
     beginning(name, SECTION_LIMIT)
 }
 
 /// As much of a module's name as decides how it is shown.
-pub fn module_beginning(name: &[u8]) -> &[u8] {
+pub fn module_beginning(name: &[u8]) -> &[u8]
+    ensures value { result.now ≡ take 256 name.now }
+    ensures shown { cut_text 255 result.now ≡ cut_text 255 name.now }
+{
     beginning(name, MODULE_LIMIT)
 }
 

@@ -1,10 +1,12 @@
 //! `SectionNames`: the long names of sections, and the places of RVAs in sections.
 
-ghost use Rattle.std.specs.Prelude.{◌≡◌, ◌-◌, ◌≤◌, None, Some};
+ghost use Rattle.std.specs.Prelude.{◌≡◌, ◌-◌, ◌≤◌, map, None, Some};
+ghost use Rattle.coff_read.specs.ImageNames.{image_strings};
 ghost use Rattle.pe_layout.specs.Layout.{headers_of};
 ghost use Rattle.pe_layout.specs.Locating.{located};
+ghost use Rattle.pe_reach.specs.Views.{seen_of};
 ghost use Rattle.pe_text.specs.TextWriter.{IsReady, Adds};
-ghost use Rattle.pe_page.specs.Places.{IsPlace, IsPlaceOf, name_at, start_at, offset_columns, place_columns};
+ghost use Rattle.pe_page.specs.Places.{IsPlace, IsPlaceOf, name_at, names_of, start_at, offset_columns, place_columns};
 ghost use Rattle.pe_page.specs.Rows.{place_text};
 
 use crate::name::{section_beginning, section_width, write_section_name};
@@ -55,11 +57,13 @@ fn named_place(name: &[u8]) -> SectionPlace
 
 impl<'a> SectionNames<'a> {
     /// The names of the sections of an image's file. Each long name is searched for its end once.
-    pub fn new(file: ViewFile<'a>, headers: &'a Headers) -> SectionNames<'a> {
+    pub fn new(file: ViewFile<'a>, headers: &'a Headers) -> SectionNames<'a>
+        ensures { map (λ name. name.now) result.names.items ≡ names_of (image_strings (seen_of file.entry) headers.now) headers.now.sections.items }
+    {
         let strings = file.strings(headers);
         let mut names = ArrayVec::new();
         for section in headers.sections.as_slice() {
-            let _ = names.try_push(section_beginning(section_name(strings, &section.name)));
+            names.push(section_beginning(section_name(strings, &section.name)));
         }
         SectionNames { names }
     }

@@ -1,8 +1,10 @@
 //! `SymbolNames`: the names of an object's symbols, by index.
 
-ghost use Rattle.std.specs.Prelude.{◌≡◌, ◌==◌, ◌<◌, ◌≤◌, AllPairs, length, option_map};
+ghost use Rattle.std.specs.Prelude.{◌≡◌, ◌==◌, ◌<◌, ◌≤◌, [], AllPairs, length, option_map, IfOk, if◌then◌else◌};
 ghost use Rattle.std.specs.List.{find};
 ghost use Rattle.std.specs.List.Sorted.{IsPartitionPoint};
+ghost use Rattle.coff_read.specs.EitherObject.{form_of, file_of};
+ghost use Rattle.pe_page.specs.Objects.{named, symbol_names};
 
 use coff_read::EitherObject;
 use std::alloc::{AllocError, Allocator};
@@ -45,7 +47,9 @@ impl<'a, A: Allocator + Copy> SymbolNames<'a, A> {
         alloc: A,
         object: &EitherObject<'a>,
         is_wanted: bool,
-    ) -> Result<SymbolNames<'a, A>, AllocError> {
+    ) -> Result<SymbolNames<'a, A>, AllocError>
+        ensures { IfOk result (λ read. named read.names.items ≡ (if is_wanted then symbol_names (form_of object.now) (file_of object.now) else [])) }
+    {
         let mut names = Vec::new(alloc);
         if !is_wanted {
             return Ok(SymbolNames { names });

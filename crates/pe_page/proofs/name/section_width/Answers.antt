@@ -1,4 +1,4 @@
-use Rattle.std.proofs.Common.{ap, arith, length, length-take}
+use Rattle.std.proofs.Common.{arith, length-take}
 use Rattle.pe_page.specs.Name.{section_columns}
 use Rattle.pe_page.proofs.name.section_width.Goals as goal
 
