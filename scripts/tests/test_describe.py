@@ -8,7 +8,7 @@ import tempfile
 import unittest
 
 TOP = pathlib.Path(__file__).resolve().parents[2]
-CRATES = ("pe_records_c", "pe_tables_c", "pe_trust_c", "pe_resources_c", "coff_object_c", "coff_archive_c", "pe_handle", "pe_opened", "petool_c", "pe_json", "coff_archive_json", "coff_library")
+CRATES = ("pe_records_c", "c_tables", "pe_handle", "pe_opened", "petool_c", "pe_json", "coff_archive_json", "coff_library")
 #: The crates that test faults or have a table of them.
 FAULT_CRATES = (
     "pe_text",
@@ -182,12 +182,12 @@ COMPARED = [
     ("crates/pe_records_c/src/fixup.rt", "    pub kind: u32,\n", "    pub kind: u32,\n    pub width: u32,\n"),
     ("crates/pe_records_c/src/headers.rt", "pub directories: [DirectoryRow; 16]", "pub directories: [DirectoryRow; 8]"),
     ("crates/pe_records_c/src/text.rt", "pub bytes: &'a [u8]", "pub bytes: u64"),
-    ("crates/pe_tables_c/src/pdb.rt", "TWO: u32 = 1;", "TWO: u32 = 2;"),
-    ("crates/coff_object_c/src/symbol.rt", "pub section_number: u32", "pub section_number: u16"),
+    ("crates/c_tables/src/pdb.rt", "TWO: u32 = 1;", "TWO: u32 = 2;"),
+    ("crates/c_tables/src/symbol.rt", "pub section_number: u32", "pub section_number: u16"),
     ("crates/petool_c/src/either_object.rt", "big: &mut bool", "big: &mut u32"),
-    ("crates/pe_tables_c/src/tls.rt", "pub is_whole: bool", "pub is_whole: u8"),
-    ("crates/pe_trust_c/src/signature.rt", "UNKNOWN: u32 = 2;", "UNKNOWN: u32 = 3;"),
-    ("crates/pe_trust_c/src/rich.rt", "pub computed: u32", "pub computed: u64"),
+    ("crates/c_tables/src/tls.rt", "pub is_whole: bool", "pub is_whole: u8"),
+    ("crates/c_tables/src/signature.rt", "UNKNOWN: u32 = 2;", "UNKNOWN: u32 = 3;"),
+    ("crates/c_tables/src/rich.rt", "pub computed: u32", "pub computed: u64"),
     ("crates/pe_handle/src/handle.rt", "pub is_open: bool", "pub is_open: u8"),
     ("crates/pe_opened/src/handle.rt", "pub is_open: bool", "pub is_open: u8"),
     ("crates/petool_c/src/fixup.rt", "rows: &mut [FixupRow]", "rows: &mut [ImportRow]"),

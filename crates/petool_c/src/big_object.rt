@@ -2,7 +2,7 @@
 
 ghost use Rattle.std.specs.Prelude.{◌≡◌, ◌≢◌, ◌⊎◌};
 ghost use Rattle.pe_view.specs.Faults.{first_standing};
-ghost use Rattle.coff_object_c.specs.HeaderRecords.{big_object_header_record};
+ghost use Rattle.c_tables.specs.HeaderRecords.{big_object_header_record};
 ghost use Rattle.coff_read.specs.BigObjectFile.{big_file_header, big_section_headers};
 ghost use Rattle.coff_read.specs.FormFaults.{object_tests};
 ghost use Rattle.coff_read.specs.Forms.{Big};
@@ -10,7 +10,7 @@ ghost use Rattle.pe_records_c.specs.Faults.{IsRefusedBy};
 ghost use Rattle.pe_records_c.specs.ObjectHeaderRows.{section_header_row};
 ghost use Rattle.pe_records_c.specs.Rows.{filled};
 
-use coff_object_c::header::{BigObjectHeaderRecord, big_object_header_record, put_section_headers};
+use c_tables::header::{BigObjectHeaderRecord, big_object_header_record, put_section_headers};
 use coff_read::BigObjectFile;
 use pe_records_c::fault::{FaultRecord, refuse};
 use pe_records_c::object_headers::SectionHeaderRow;

@@ -3,13 +3,13 @@
 ghost use Rattle.pe_layout.specs.Image.{image_of_file};
 ghost use Rattle.pe_layout.specs.SectionFaults.{layout_tests};
 ghost use Rattle.pe_records_c.specs.Rows.{ReadsTable};
-ghost use Rattle.pe_tables_c.specs.BoundImportRows.{bound_import_row, bound_imports};
+ghost use Rattle.c_tables.specs.BoundImportRows.{bound_import_row, bound_imports};
 
+use c_tables::bound_import::BoundImportRow;
+use c_tables::items::put_items;
 use pe_image::lay_out;
 use pe_records::BoundImports;
 use pe_records_c::fault::{FaultRecord, refuse};
-use pe_tables_c::bound_import::BoundImportRow;
-use pe_tables_c::items::put_items;
 
 /// Reads the records of the bound import table of an image, in table order and before the first that is all zeros, into the caller's
 /// rows: those that are whole in the directory's Size and in the bytes that the file holds in one run.

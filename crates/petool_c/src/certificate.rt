@@ -3,11 +3,11 @@
 ghost use Rattle.pe_head.specs.Head.{head_of};
 ghost use Rattle.pe_head.specs.HeaderFaults.{head_tests};
 ghost use Rattle.pe_records_c.specs.Rows.{ReadsTable};
-ghost use Rattle.pe_trust_c.specs.CertificateRows.{certificates, certificate_text};
+ghost use Rattle.c_tables.specs.CertificateRows.{certificates, certificate_text};
 
+use c_tables::certificate::{CertificateRow, tell_certificates};
+use c_tables::file::file_headers;
 use pe_records_c::fault::{FaultRecord, refuse};
-use pe_trust_c::certificate::{CertificateRow, tell_certificates};
-use pe_trust_c::file::file_headers;
 use pe_view::View;
 
 /// Reads the entries of the certificate table of an image's file, in table order, into the caller's rows: those that are whole in the

@@ -3,16 +3,16 @@
 ghost use Rattle.pe_layout.specs.Image.{image_of_file};
 ghost use Rattle.pe_layout.specs.SectionFaults.{layout_tests};
 ghost use Rattle.pe_records_c.specs.Rows.{ReadsTable};
-ghost use Rattle.pe_tables_c.specs.DebugRows.{debug_entries, debug_row};
-ghost use Rattle.pe_tables_c.specs.PdbRows.{pdb_of, pdb_text};
-ghost use Rattle.pe_tables_c.specs.Told.{ReadsRecord};
+ghost use Rattle.c_tables.specs.DebugRows.{debug_entries, debug_row};
+ghost use Rattle.c_tables.specs.PdbRows.{pdb_of, pdb_text};
+ghost use Rattle.c_tables.specs.Told.{ReadsRecord};
 
+use c_tables::debug::DebugRow;
+use c_tables::items::put_items;
+use c_tables::pdb::{PdbRecord, tell_pdb};
 use pe_image::lay_out;
 use pe_records::{DebugEntry, Records};
 use pe_records_c::fault::{FaultRecord, refuse};
-use pe_tables_c::debug::DebugRow;
-use pe_tables_c::items::put_items;
-use pe_tables_c::pdb::{PdbRecord, tell_pdb};
 
 /// Reads the entries of the debug directory of an image, in table order, into the caller's rows: those that are whole in the
 /// directory's Size and in the bytes that the file holds in one run.

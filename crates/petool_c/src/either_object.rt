@@ -3,8 +3,8 @@
 
 ghost use Rattle.std.specs.Prelude.{◌≡◌, ◌≢◌, ◌⊎◌, drop, slice_get};
 ghost use Rattle.pe_view.specs.Faults.{first_standing};
-ghost use Rattle.coff_object_c.specs.Relocations.{relocations_of};
-ghost use Rattle.coff_object_c.specs.SymbolRows.{symbol_row, symbol_text, symbols_of};
+ghost use Rattle.c_tables.specs.Relocations.{relocations_of};
+ghost use Rattle.c_tables.specs.SymbolRows.{symbol_row, symbol_text, symbols_of};
 ghost use Rattle.coff_read.specs.EitherObject.{form_in};
 ghost use Rattle.coff_read.specs.FormFaults.{object_tests};
 ghost use Rattle.coff_read.specs.FormReading.{object_of};
@@ -12,9 +12,9 @@ ghost use Rattle.pe_records_c.specs.Faults.{IsRefusedBy};
 ghost use Rattle.pe_records_c.specs.ObjectRows.{section_text, section_row, relocation_row, TellsRelocations};
 ghost use Rattle.pe_records_c.specs.Rows.{TellsTable};
 
-use coff_object_c::relocation::{tell_all_relocations, tell_relocations};
-use coff_object_c::section::tell_sections;
-use coff_object_c::symbol::{EitherObjectSymbolRow, tell_symbols};
+use c_tables::relocation::{tell_all_relocations, tell_relocations};
+use c_tables::section::tell_sections;
+use c_tables::symbol::{EitherObjectSymbolRow, tell_symbols};
 use coff_read::EitherObject;
 use pe_records_c::fault::{FaultRecord, refuse};
 use pe_records_c::object::{ObjectRelocationRow, ObjectSectionRow};

@@ -3,11 +3,11 @@
 ghost use Rattle.pe_layout.specs.Image.{image_of_file};
 ghost use Rattle.pe_layout.specs.SectionFaults.{layout_tests};
 ghost use Rattle.pe_records_c.specs.Rows.{ReadsTable};
-ghost use Rattle.pe_tables_c.specs.FieldRows.{clr_values, field_row, load_values};
+ghost use Rattle.c_tables.specs.FieldRows.{clr_values, field_row, load_values};
 
+use c_tables::field::{FieldRow, tell_clr, tell_load_configuration};
 use pe_image::lay_out;
 use pe_records_c::fault::{FaultRecord, refuse};
-use pe_tables_c::field::{FieldRow, tell_clr, tell_load_configuration};
 
 /// Reads the fields of the load configuration of an image, in the order of "PE Format", into the caller's rows: 52 of them, of which
 /// those that end after its own field Size, or after the bytes that the file holds in one run, are absent. An image that has no load

@@ -3,13 +3,13 @@
 ghost use Rattle.pe_layout.specs.SectionFaults.{layout_tests};
 ghost use Rattle.pe_records_c.specs.Faults.{fault_record};
 ghost use Rattle.pe_records_c.specs.Rows.{ReadsTable};
-ghost use Rattle.pe_resources_c.specs.ResourceFindings.{FindingsTakeMemory, all_findings_of};
+ghost use Rattle.c_tables.specs.ResourceFindings.{FindingsTakeMemory, all_findings_of};
 
+use c_tables::all_findings::tell_all_findings;
+use c_tables::resource_finding::table_findings;
 use pe_image::lay_out;
 use pe_records_c::fault::{FaultRecord, refuse};
 use pe_records_c::status;
-use pe_resources_c::finding::table_findings;
-use pe_trust_c::all_findings::tell_all_findings;
 use pe_view::View;
 use std::alloc::Global;
 

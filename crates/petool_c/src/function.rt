@@ -4,11 +4,11 @@ ghost use Rattle.pe_head.specs.Head.{head_of};
 ghost use Rattle.pe_layout.specs.Image.{image_of_file};
 ghost use Rattle.pe_layout.specs.SectionFaults.{layout_tests};
 ghost use Rattle.pe_records_c.specs.Rows.{ReadsTable};
-ghost use Rattle.pe_tables_c.specs.FunctionRows.{function_rows};
+ghost use Rattle.c_tables.specs.FunctionRows.{function_rows};
 
+use c_tables::function::{FunctionRow, tell_functions};
 use pe_image::lay_out;
 use pe_records_c::fault::{FaultRecord, refuse};
-use pe_tables_c::function::{FunctionRow, tell_functions};
 
 /// Reads the functions of the exception table of an image, in table order, into the caller's rows: those that are whole in the
 /// directory's Size and in the bytes that the file holds in one run. The table of a machine other than AMD64, ARM64 and ARMNT has

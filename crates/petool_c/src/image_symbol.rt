@@ -6,10 +6,10 @@ ghost use Rattle.pe_head.specs.HeaderFaults.{head_tests};
 ghost use Rattle.pe_records_c.specs.Rows.{ReadsTable};
 ghost use Rattle.pe_records_c.specs.SymbolRows.{symbol_row, symbol_text};
 
+use c_tables::file::file_headers;
+use c_tables::image_symbol::tell_image_symbols;
 use pe_records_c::fault::{FaultRecord, refuse};
 use pe_records_c::symbol::ObjectSymbolRow;
-use pe_symbols_c::image_symbol::tell_image_symbols;
-use pe_trust_c::file::file_headers;
 use pe_view::View;
 use std::alloc::Global;
 

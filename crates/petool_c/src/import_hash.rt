@@ -1,11 +1,11 @@
 //! The import hash: `petool_import_hash`.
 
-ghost use Rattle.pe_trust_c.specs.ImportHash.{ReadsImportHash};
+ghost use Rattle.c_tables.specs.ImportHash.{ReadsImportHash};
 
+use c_tables::digest::DigestRecord;
+use c_tables::hash::tell_import_hash;
 use pe_records_c::fault::{FaultRecord, refuse_for};
 use pe_records_c::reading::imports_in;
-use pe_trust_c::digest::DigestRecord;
-use pe_trust_c::hash::tell_import_hash;
 use std::alloc::Global;
 
 /// Reads the import hash of an image: the MD5 digest of what it imports, told as text, in the order of its import table.

@@ -3,13 +3,13 @@
 ghost use Rattle.std.specs.Prelude.{Some};
 ghost use Rattle.pe_head.specs.Head.{head_of};
 ghost use Rattle.pe_head.specs.HeaderFaults.{head_tests};
-ghost use Rattle.pe_tables_c.specs.Told.{ReadsRecord};
-ghost use Rattle.pe_trust_c.specs.FileRecords.{overlay_record};
+ghost use Rattle.c_tables.specs.Told.{ReadsRecord};
+ghost use Rattle.c_tables.specs.FileRecords.{overlay_record};
 
+use c_tables::file::file_headers;
+use c_tables::overlay::{OverlayRecord, overlay_record};
 use pe_records_c::fault::{FaultRecord, refuse};
 use pe_records_c::status;
-use pe_trust_c::file::file_headers;
-use pe_trust_c::overlay::{OverlayRecord, overlay_record};
 use pe_view::View;
 
 /// Where the file of an image ends by its headers, which is the end of the headers or of the raw data of a section, whichever is last;

@@ -6,17 +6,17 @@ ghost use Rattle.pe_layout.specs.SectionFaults.{layout_tests};
 ghost use Rattle.pe_records_c.specs.Rows.{ReadsTable};
 ghost use Rattle.pe_records_c.specs.Wants.{IsLaidOutAnd};
 ghost use Rattle.pe_resources.specs.Walk.{leaves_of};
-ghost use Rattle.pe_resources_c.specs.Kinds.{manifest_data};
-ghost use Rattle.pe_resources_c.specs.ResourceRows.{resource_row, resource_text};
-ghost use Rattle.pe_resources_c.specs.Texts.{text_bytes};
-ghost use Rattle.pe_tables_c.specs.Told.{ReadsRecord};
+ghost use Rattle.c_tables.specs.Kinds.{manifest_data};
+ghost use Rattle.c_tables.specs.ResourceRows.{resource_row, resource_text};
+ghost use Rattle.c_tables.specs.Texts.{text_bytes};
+ghost use Rattle.c_tables.specs.Told.{ReadsRecord};
 
+use c_tables::manifest::tell_manifest;
+use c_tables::resource::{ResourceRow, tell_resources};
 use pe_image::lay_out;
 use pe_records_c::fault::{FaultRecord, refuse};
 use pe_records_c::status;
 use pe_records_c::text::TextRecord;
-use pe_resources_c::manifest::tell_manifest;
-use pe_resources_c::resource::{ResourceRow, tell_resources};
 use std::alloc::Global;
 
 /// Reads the leaves of the resource tree of an image, in the order of the tree, into the caller's rows. The tree is read as three

@@ -3,12 +3,12 @@
 ghost use Rattle.pe_head.specs.Head.{head_of};
 ghost use Rattle.pe_head.specs.HeaderFaults.{head_tests};
 ghost use Rattle.pe_records_c.specs.Rows.{ReadsTable};
-ghost use Rattle.pe_tables_c.specs.Told.{ReadsRecord};
-ghost use Rattle.pe_trust_c.specs.RichRows.{pair_row, rich_pairs, rich_told};
+ghost use Rattle.c_tables.specs.Told.{ReadsRecord};
+ghost use Rattle.c_tables.specs.RichRows.{pair_row, rich_pairs, rich_told};
 
+use c_tables::file::file_headers;
+use c_tables::rich::{RichPairRow, RichRecord, tell_rich, tell_rich_pairs};
 use pe_records_c::fault::{FaultRecord, refuse};
-use pe_trust_c::file::file_headers;
-use pe_trust_c::rich::{RichPairRow, RichRecord, tell_rich, tell_rich_pairs};
 use pe_view::View;
 
 /// The Rich header of an image's file, which linkers of Microsoft write between the MS-DOS program and the signature: where it begins,

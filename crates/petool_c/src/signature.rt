@@ -3,14 +3,14 @@
 ghost use Rattle.pe_head.specs.Head.{head_of};
 ghost use Rattle.pe_head.specs.HeaderFaults.{head_tests};
 ghost use Rattle.pe_records_c.specs.Rows.{ReadsTable};
-ghost use Rattle.pe_trust_c.specs.DigestRecords.{ReadsDigest, algorithm_numbered};
-ghost use Rattle.pe_trust_c.specs.SignatureRows.{signature_row, signature_text, signatures};
+ghost use Rattle.c_tables.specs.DigestRecords.{ReadsDigest, algorithm_numbered};
+ghost use Rattle.c_tables.specs.SignatureRows.{signature_row, signature_text, signatures};
 
+use c_tables::digest::{DigestRecord, algorithm_numbered, tell_digest};
+use c_tables::file::file_headers;
+use c_tables::signature::{SignatureRow, tell_signatures};
 use pe_records_c::fault::{FaultRecord, refuse};
 use pe_records_c::status;
-use pe_trust_c::digest::{DigestRecord, algorithm_numbered, tell_digest};
-use pe_trust_c::file::file_headers;
-use pe_trust_c::signature::{SignatureRow, tell_signatures};
 use pe_view::View;
 
 /// Reads the signatures of an image's file (Authenticode) into the caller's rows: the entries of the certificate table whose type is

@@ -2,9 +2,9 @@
 
 ghost use Rattle.pe_records_c.specs.Rows.{TellsTable};
 ghost use Rattle.pe_trust.specs.Signers.{signers_of_signature};
-ghost use Rattle.pe_trust_c.specs.SignerRows.{signer_row, signer_text};
+ghost use Rattle.c_tables.specs.SignerRows.{signer_row, signer_text};
 
-use pe_trust_c::signer::{SignerRow, tell_signers};
+use c_tables::signer::{SignerRow, tell_signers};
 
 /// Reads the certificates that a signature has, given its bytes, the content of an entry of the certificate table whose type is PKCS #7,
 /// into the caller's rows: as far as they can be read, and none if it has none.

@@ -3,12 +3,12 @@
 ghost use Rattle.std.specs.Prelude.{Some};
 ghost use Rattle.pe_head.specs.Head.{head_of};
 ghost use Rattle.pe_head.specs.HeaderFaults.{head_tests};
-ghost use Rattle.pe_tables_c.specs.Told.{ReadsRecord};
-ghost use Rattle.pe_trust_c.specs.FileRecords.{check_sum_record};
+ghost use Rattle.c_tables.specs.Told.{ReadsRecord};
+ghost use Rattle.c_tables.specs.FileRecords.{check_sum_record};
 
+use c_tables::sum::{CheckSumRecord, file_check_sum};
 use pe_records_c::fault::{FaultRecord, refuse};
 use pe_records_c::status;
-use pe_trust_c::sum::{CheckSumRecord, file_check_sum};
 
 /// CheckSum of an image's file: what its field holds, and the checksum of the file, which it is to hold.
 ///

@@ -5,12 +5,12 @@ ghost use Rattle.pe_layout.specs.Image.{image_of_file};
 ghost use Rattle.pe_layout.specs.SectionFaults.{layout_tests};
 ghost use Rattle.pe_records.specs.TlsFields.{tls_of};
 ghost use Rattle.pe_records_c.specs.Rows.{ReadsTable};
-ghost use Rattle.pe_tables_c.specs.TlsRows.{callback_row, callbacks_in, tls_record};
-ghost use Rattle.pe_tables_c.specs.Told.{ReadsRecord};
+ghost use Rattle.c_tables.specs.TlsRows.{callback_row, callbacks_in, tls_record};
+ghost use Rattle.c_tables.specs.Told.{ReadsRecord};
 
+use c_tables::tls::{CallbackRow, TlsRecord, tell_callbacks, tell_tls};
 use pe_image::lay_out;
 use pe_records_c::fault::{FaultRecord, refuse};
-use pe_tables_c::tls::{CallbackRow, TlsRecord, tell_callbacks, tell_tls};
 
 /// The TLS directory of an image.
 ///

@@ -4,11 +4,11 @@ ghost use Rattle.pe_head.specs.Head.{head_of};
 ghost use Rattle.pe_head.specs.HeaderFaults.{head_tests};
 ghost use Rattle.pe_records_c.specs.Faults.{fault_record};
 ghost use Rattle.pe_records_c.specs.Rows.{ReadsTable};
-ghost use Rattle.pe_trust_c.specs.TrustFindings.{trust_findings_of};
+ghost use Rattle.c_tables.specs.TrustFindings.{trust_findings_of};
 
+use c_tables::file::file_headers;
+use c_tables::trust_finding::tell_trust_findings;
 use pe_records_c::fault::{FaultRecord, refuse};
-use pe_trust_c::file::file_headers;
-use pe_trust_c::finding::tell_trust_findings;
 use pe_view::View;
 
 /// Reads the findings on the certificate table (221 to 225) and on the Rich header (241) of an image's file, at most six, into the

@@ -3,15 +3,15 @@
 ghost use Rattle.pe_layout.specs.Image.{image_of_file};
 ghost use Rattle.pe_layout.specs.SectionFaults.{layout_tests};
 ghost use Rattle.pe_records_c.specs.Rows.{ReadsTable};
-ghost use Rattle.pe_resources_c.specs.Texts.{text_bytes};
-ghost use Rattle.pe_resources_c.specs.VersionRows.{value_of, version_strings, version_text, version_told};
-ghost use Rattle.pe_tables_c.specs.Told.{ReadsRecord};
+ghost use Rattle.c_tables.specs.Texts.{text_bytes};
+ghost use Rattle.c_tables.specs.VersionRows.{value_of, version_strings, version_text, version_told};
+ghost use Rattle.c_tables.specs.Told.{ReadsRecord};
 
+use c_tables::version::{VersionInfoRecord, tell_version};
+use c_tables::version_text::{VersionTextRow, tell_version_string, tell_version_strings};
 use pe_image::lay_out;
 use pe_records_c::fault::{FaultRecord, refuse};
 use pe_records_c::text::TextRecord;
-use pe_resources_c::version::{VersionInfoRecord, tell_version};
-use pe_resources_c::version_text::{VersionTextRow, tell_version_string, tell_version_strings};
 
 /// The fixed part of an image's version information (VS_FIXEDFILEINFO), which is the data of the first resource of type 16.
 ///

@@ -7,14 +7,14 @@ ghost use Rattle.pe_records_c.specs.Images.{IsText};
 ghost use Rattle.pe_records_c.specs.Lines.{line_of};
 ghost use Rattle.pe_records_c.specs.Rows.{TellsTable};
 ghost use Rattle.pe_records_c.specs.ValueRows.{value_text, value_of, fault_values};
-ghost use Rattle.pe_tables_c.specs.TableNames.{table_name};
+ghost use Rattle.c_tables.specs.TableNames.{table_name};
 ghost use Rattle.pe_text.specs.FaultWords.{rules, words_in, sentence};
 
+use c_tables::name::name_of;
 use pe_records_c::fault::{FaultRecord, fault_of};
 use pe_records_c::status;
 use pe_records_c::text::{TextRecord, put_line};
 use pe_records_c::value::{ValueRow, tell_values};
-use pe_tables_c::name::name_of;
 use pe_text::{fault_sentence, fault_words};
 
 /// The version of this library: its first part times 65,536, plus its second part. A program that was built for another first

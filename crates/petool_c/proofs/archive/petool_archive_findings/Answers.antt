@@ -3,8 +3,8 @@ use Rattle.std.proofs.Common.{◌∙◌, List, refl, subst}
 use Rattle.std.specs.Prelude.{◌≢◌, []}
 use Rattle.pe_view.specs.declared.fault.Fault.{Fault}
 use Rattle.pe_view.specs.declared.refusal.Refusal.TheVariants as refusals
-use Rattle.coff_archive_c.specs.ArchiveFindings.{archive_findings_of}
-use Rattle.coff_archive_c.proofs.Opened.{of_file}
+use Rattle.c_tables.specs.ArchiveFindings.{archive_findings_of}
+use Rattle.c_tables.proofs.Opened.{of_file}
 use Rattle.pe_records_c.specs.Faults.{fault_record}
 use Rattle.pe_records_c.specs.Rows.{TellsTable}
 use Rattle.pe_records_c.proofs.Telling.{table_accepted, table_refused}

@@ -4,8 +4,8 @@ use Rattle.std.specs.Prelude.{◌≢◌, []}
 use Rattle.pe_view.specs.declared.refusal.Refusal.TheVariants as refusals
 use Rattle.coff_archive.specs.FileTests.{is_thin_file}
 use Rattle.coff_archive.specs.Front.{names_of}
-use Rattle.coff_archive_c.specs.MemberRows.{member_row, member_text, whole_members}
-use Rattle.coff_archive_c.proofs.Opened.{of_file}
+use Rattle.c_tables.specs.MemberRows.{member_row, member_text, whole_members}
+use Rattle.c_tables.proofs.Opened.{of_file}
 use Rattle.pe_records_c.specs.Rows.{TellsTable}
 use Rattle.pe_records_c.proofs.Telling.{refusal_told, told_refuses, table_accepted, table_refused}
 use Rattle.petool_c.proofs.archive.petool_archive_members.Goals as goal

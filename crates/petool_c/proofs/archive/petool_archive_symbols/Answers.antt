@@ -1,6 +1,6 @@
 -- The rows are those of the symbols of the file's linker member.
 use Rattle.std.proofs.Common.{◌∙◌, sym}
-use Rattle.coff_archive_c.proofs.Opened.{linker_read, linker_refused, numbered}
+use Rattle.c_tables.proofs.Opened.{linker_read, linker_refused, numbered}
 use Rattle.petool_c.proofs.archive.petool_archive_symbols.Goals as goal
 
 pub returns-in-Ok : goal.returns-in-Ok

@@ -4,7 +4,7 @@ use Rattle.std.proofs.lemmas.List.{map-id}
 use Rattle.pe_view.specs.declared.refusal.Refusal.TheVariants as refusals
 use Rattle.pe_records.specs.BoundImports.{bound_imports_in}
 use Rattle.pe_records_c.proofs.Telling.{table_read, table_refused}
-use Rattle.pe_tables_c.specs.BoundImportRows.{bound_imports, bound_import_row}
+use Rattle.c_tables.specs.BoundImportRows.{bound_imports, bound_import_row}
 use Rattle.petool_c.proofs.bound_import.petool_bound_imports.Goals as goal
 
 pub returns-in-Ok : goal.returns-in-Ok

@@ -4,7 +4,7 @@ use Rattle.pe_view.specs.declared.refusal.Refusal.TheVariants as refusals
 use Rattle.pe_head.specs.declared.headers.Headers.{Headers}
 use Rattle.pe_records_c.specs.Rows.{TellsTable}
 use Rattle.pe_records_c.proofs.Telling.{table_accepted, table_refused}
-use Rattle.pe_trust_c.specs.CertificateRows.{certificates, certificate_text}
+use Rattle.c_tables.specs.CertificateRows.{certificates, certificate_text}
 use Rattle.petool_c.proofs.certificate.petool_certificates.Goals as goal
 
 pub returns-in-Ok : goal.returns-in-Ok

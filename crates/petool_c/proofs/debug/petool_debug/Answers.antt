@@ -5,7 +5,7 @@ use Rattle.pe_view.specs.declared.refusal.Refusal.TheVariants as refusals
 use Rattle.pe_records.specs.Debug.{debug_entry_at}
 use Rattle.pe_records.specs.Records.{records_in}
 use Rattle.pe_records_c.proofs.Telling.{table_read, table_refused}
-use Rattle.pe_tables_c.specs.DebugRows.{debug_entries, debug_row}
+use Rattle.c_tables.specs.DebugRows.{debug_entries, debug_row}
 use Rattle.petool_c.proofs.debug.petool_debug.Goals as goal
 
 pub returns : goal.returns

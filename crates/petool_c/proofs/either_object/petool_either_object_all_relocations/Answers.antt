@@ -1,6 +1,6 @@
 -- The rows are those of the relocations of the file's object, after the skipped ones.
 use Rattle.std.proofs.Common.{ℕ, List, drop}
-use Rattle.coff_object_c.specs.Relocations.{relocations_of}
+use Rattle.c_tables.specs.Relocations.{relocations_of}
 use Rattle.coff_read.specs.Forms.{Form}
 use Rattle.pe_records_c.specs.ObjectRows.{relocation_row}
 use Rattle.pe_records_c.specs.Rows.{TellsTable}

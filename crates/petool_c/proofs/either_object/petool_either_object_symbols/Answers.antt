@@ -1,6 +1,6 @@
 -- The rows are those of the symbols of the file's object.
 use Rattle.std.proofs.Common.{ℕ, List}
-use Rattle.coff_object_c.specs.SymbolRows.{symbol_row, symbol_text, symbols_of}
+use Rattle.c_tables.specs.SymbolRows.{symbol_row, symbol_text, symbols_of}
 use Rattle.coff_read.specs.Forms.{Form}
 use Rattle.pe_records_c.specs.Rows.{TellsTable}
 use Rattle.pe_records_c.proofs.Telling.{fault_told, none_refused, table_no_fault}

@@ -4,7 +4,7 @@ use Rattle.pe_view.specs.declared.refusal.Refusal.TheVariants as refusals
 use Rattle.pe_layout.specs.Image.{LaidOut}
 use Rattle.pe_records_c.specs.Rows.{TellsTable}
 use Rattle.pe_records_c.proofs.Telling.{table_accepted, table_refused}
-use Rattle.pe_tables_c.specs.FieldRows.{clr_values, field_row}
+use Rattle.c_tables.specs.FieldRows.{clr_values, field_row}
 use Rattle.petool_c.proofs.field.petool_clr.Goals as goal
 
 pub returns-in-Ok : goal.returns-in-Ok

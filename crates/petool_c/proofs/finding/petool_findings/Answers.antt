@@ -11,9 +11,9 @@ use Rattle.pe_layout.specs.declared.layout.Layout.{Layout}
 use Rattle.pe_records_c.specs.Faults.{fault_record}
 use Rattle.pe_records_c.specs.Rows.{TellsTable}
 use Rattle.pe_records_c.proofs.Telling.{table_accepted, table_refused}
-use Rattle.pe_trust_c.specs.AllFindings.{with_between}
-use Rattle.pe_trust_c.specs.TrustFindings.{trust_findings_of}
-use Rattle.pe_resources_c.specs.ResourceFindings.{FindingsTakeMemory, TablesWantMemory, delay_and_resource_findings, record_and_symbol_findings}
+use Rattle.c_tables.specs.AllFindings.{with_between}
+use Rattle.c_tables.specs.TrustFindings.{trust_findings_of}
+use Rattle.c_tables.specs.ResourceFindings.{FindingsTakeMemory, TablesWantMemory, delay_and_resource_findings, record_and_symbol_findings}
 use Rattle.petool_c.proofs.finding.petool_findings.Goals as goal
 
 -- those of the layout are those of its file

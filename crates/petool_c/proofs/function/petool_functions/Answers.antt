@@ -7,8 +7,8 @@ use Rattle.pe_head.specs.declared.headers.Headers.{Headers}
 use Rattle.pe_layout.specs.Layout.{image_of}
 use Rattle.pe_records_c.specs.Rows.{TellsTable}
 use Rattle.pe_records_c.proofs.Telling.{table_accepted, table_refused}
-use Rattle.pe_tables_c.specs.FunctionRows.{function_rows}
-use Rattle.pe_tables_c.specs.declared.function.FunctionRow.{FunctionRow}
+use Rattle.c_tables.specs.FunctionRows.{function_rows}
+use Rattle.c_tables.specs.declared.function.FunctionRow.{FunctionRow}
 use Rattle.petool_c.proofs.function.petool_functions.Goals as goal
 
 pub returns-in-Ok : goal.returns-in-Ok

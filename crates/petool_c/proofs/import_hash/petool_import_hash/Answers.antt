@@ -5,9 +5,9 @@ use Rattle.pe_tables.specs.Imports.{Import}
 use Rattle.pe_tables.specs.ImportView.{import_view}
 use Rattle.pe_imphash.specs.ImportText.{import_hash_of}
 use Rattle.pe_records_c.proofs.Telling.{accepted_or_refused, none_told, refusal_told, told_refuses}
-use Rattle.pe_tables_c.specs.Told.{TellsRecord}
-use Rattle.pe_trust_c.specs.DigestRecords.{digest_record}
-use Rattle.pe_trust_c.specs.declared.digest.DigestRecord.{DigestRecord}
+use Rattle.c_tables.specs.Told.{TellsRecord}
+use Rattle.c_tables.specs.DigestRecords.{digest_record}
+use Rattle.c_tables.specs.declared.digest.DigestRecord.{DigestRecord}
 use Rattle.petool_c.proofs.import_hash.petool_import_hash.Goals as goal
 
 -- the status of a record is not that of a refusal

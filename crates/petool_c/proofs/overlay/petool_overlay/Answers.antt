@@ -1,7 +1,7 @@
 -- What is told by the headers holds for the file.
 use Rattle.std.proofs.Common.{◌∙◌, ℕ, List, Some, refl, ap}
-use Rattle.pe_tables_c.proofs.Telling.{record_read, record_refused}
-use Rattle.pe_trust_c.specs.FileRecords.{overlay_record}
+use Rattle.c_tables.proofs.Telling.{record_read, record_refused}
+use Rattle.c_tables.specs.FileRecords.{overlay_record}
 use Rattle.petool_c.proofs.overlay.petool_overlay.Goals as goal
 
 pub returns-in-Ok : goal.returns-in-Ok

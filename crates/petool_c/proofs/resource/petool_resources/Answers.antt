@@ -6,7 +6,7 @@ use Rattle.pe_layout.specs.Image.{LaidOut, image_of_file}
 use Rattle.pe_records_c.specs.Rows.{TellsTable}
 use Rattle.pe_records_c.proofs.Telling.{refusal_told, told_refuses, table_accepted, table_refused}
 use Rattle.pe_resources.specs.Walk.{leaves_of}
-use Rattle.pe_resources_c.specs.ResourceRows.{resource_row, resource_text}
+use Rattle.c_tables.specs.ResourceRows.{resource_row, resource_text}
 use Rattle.petool_c.proofs.resource.petool_resources.Goals as goal
 
 pub returns-in-Ok-tell_resources : goal.returns-in-Ok-tell_resources

@@ -1,9 +1,9 @@
 -- What is told by the headers holds for the file.
 use Rattle.std.proofs.Common.{ℕ, List, subst}
 use Rattle.pe_head.specs.declared.headers.Headers.{Headers}
-use Rattle.pe_tables_c.specs.Told.{TellsRecord}
-use Rattle.pe_tables_c.proofs.Telling.{record_read, record_refused}
-use Rattle.pe_trust_c.specs.RichRows.{rich_told}
+use Rattle.c_tables.specs.Told.{TellsRecord}
+use Rattle.c_tables.proofs.Telling.{record_read, record_refused}
+use Rattle.c_tables.specs.RichRows.{rich_told}
 use Rattle.petool_c.proofs.rich.petool_rich.Goals as goal
 
 pub returns-in-Ok : goal.returns-in-Ok

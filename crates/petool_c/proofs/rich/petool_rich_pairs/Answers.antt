@@ -4,7 +4,7 @@ use Rattle.pe_view.specs.declared.refusal.Refusal.TheVariants as refusals
 use Rattle.pe_head.specs.declared.headers.Headers.{Headers}
 use Rattle.pe_records_c.specs.Rows.{TellsTable}
 use Rattle.pe_records_c.proofs.Telling.{table_accepted, table_refused}
-use Rattle.pe_trust_c.specs.RichRows.{pair_row, rich_pairs}
+use Rattle.c_tables.specs.RichRows.{pair_row, rich_pairs}
 use Rattle.petool_c.proofs.rich.petool_rich_pairs.Goals as goal
 
 pub returns-in-Ok : goal.returns-in-Ok

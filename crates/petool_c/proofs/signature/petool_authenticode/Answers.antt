@@ -4,7 +4,7 @@ use Rattle.pe_view.specs.declared.refusal.Refusal.TheVariants as refusals
 use Rattle.pe_head.specs.declared.headers.Headers.{Headers}
 use Rattle.pe_records_c.specs.Rows.{TellsTable}
 use Rattle.pe_records_c.proofs.Telling.{table_accepted, table_refused}
-use Rattle.pe_trust_c.specs.SignatureRows.{signature_row, signature_text, signatures}
+use Rattle.c_tables.specs.SignatureRows.{signature_row, signature_text, signatures}
 use Rattle.petool_c.proofs.signature.petool_authenticode.Goals as goal
 
 pub returns-in-Ok : goal.returns-in-Ok

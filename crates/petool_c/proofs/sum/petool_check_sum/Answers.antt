@@ -1,5 +1,5 @@
 use Rattle.std.proofs.Common.{Some, refl}
-use Rattle.pe_tables_c.proofs.Telling.{record_read, record_refused}
+use Rattle.c_tables.proofs.Telling.{record_read, record_refused}
 use Rattle.petool_c.proofs.sum.petool_check_sum.Goals as goal
 
 pub returns-in-Ok : goal.returns-in-Ok

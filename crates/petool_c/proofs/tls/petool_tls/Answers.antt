@@ -2,9 +2,9 @@
 use Rattle.std.proofs.Common.{option_map, subst}
 use Rattle.pe_layout.specs.Image.{LaidOut}
 use Rattle.pe_records.specs.TlsFields.{tls_of}
-use Rattle.pe_tables_c.specs.TlsRows.{tls_record}
-use Rattle.pe_tables_c.specs.Told.{TellsRecord}
-use Rattle.pe_tables_c.proofs.Telling.{record_read, record_refused}
+use Rattle.c_tables.specs.TlsRows.{tls_record}
+use Rattle.c_tables.specs.Told.{TellsRecord}
+use Rattle.c_tables.proofs.Telling.{record_read, record_refused}
 use Rattle.petool_c.proofs.tls.petool_tls.Goals as goal
 
 pub returns-in-Ok : goal.returns-in-Ok

@@ -5,7 +5,7 @@ use Rattle.pe_head.specs.declared.headers.Headers.{Headers}
 use Rattle.pe_records_c.specs.Rows.{TellsTable}
 use Rattle.pe_records_c.proofs.Telling.{table_accepted, table_refused}
 use Rattle.pe_records_c.specs.Faults.{fault_record}
-use Rattle.pe_trust_c.specs.TrustFindings.{trust_findings_of}
+use Rattle.c_tables.specs.TrustFindings.{trust_findings_of}
 use Rattle.petool_c.proofs.trust_finding.petool_trust_findings.Goals as goal
 
 pub returns-in-Ok : goal.returns-in-Ok

@@ -1,9 +1,9 @@
 -- What is told of the image holds for that of the file.
 use Rattle.std.proofs.Common.{subst}
 use Rattle.pe_layout.specs.Image.{LaidOut}
-use Rattle.pe_tables_c.specs.Told.{TellsRecord}
-use Rattle.pe_tables_c.proofs.Telling.{record_read, record_refused}
-use Rattle.pe_resources_c.specs.VersionRows.{version_told}
+use Rattle.c_tables.specs.Told.{TellsRecord}
+use Rattle.c_tables.proofs.Telling.{record_read, record_refused}
+use Rattle.c_tables.specs.VersionRows.{version_told}
 use Rattle.petool_c.proofs.version.petool_version.Goals as goal
 
 pub returns-in-Ok : goal.returns-in-Ok

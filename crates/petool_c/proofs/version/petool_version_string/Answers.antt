@@ -1,10 +1,10 @@
 -- What is told of the image holds for that of the file.
 use Rattle.std.proofs.Common.{subst}
 use Rattle.pe_layout.specs.Image.{LaidOut}
-use Rattle.pe_tables_c.specs.Told.{TellsRecord}
-use Rattle.pe_tables_c.proofs.Telling.{record_read, record_refused}
-use Rattle.pe_resources_c.specs.Texts.{text_bytes}
-use Rattle.pe_resources_c.specs.VersionRows.{value_of, version_strings}
+use Rattle.c_tables.specs.Told.{TellsRecord}
+use Rattle.c_tables.proofs.Telling.{record_read, record_refused}
+use Rattle.c_tables.specs.Texts.{text_bytes}
+use Rattle.c_tables.specs.VersionRows.{value_of, version_strings}
 use Rattle.petool_c.proofs.version.petool_version_string.Goals as goal
 
 pub returns-in-Ok : goal.returns-in-Ok

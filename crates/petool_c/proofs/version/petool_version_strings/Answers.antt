@@ -4,7 +4,7 @@ use Rattle.pe_view.specs.declared.refusal.Refusal.TheVariants as refusals
 use Rattle.pe_layout.specs.Image.{LaidOut}
 use Rattle.pe_records_c.specs.Rows.{TellsTable}
 use Rattle.pe_records_c.proofs.Telling.{table_accepted, table_refused}
-use Rattle.pe_resources_c.specs.VersionRows.{version_strings, version_text}
+use Rattle.c_tables.specs.VersionRows.{version_strings, version_text}
 use Rattle.petool_c.proofs.version.petool_version_strings.Goals as goal
 
 pub returns-in-Ok : goal.returns-in-Ok

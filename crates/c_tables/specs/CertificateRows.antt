@@ -1,0 +1,13 @@
+-- The certificate table as C has it.
+use Rattle.std.specs.Prelude.{ℕ, List, slice_get}
+use Rattle.pe_head.specs.declared.headers.Headers.{Headers}
+use Rattle.pe_trust.specs.Certificates.{Entry, certificates_of}
+use Rattle.c_tables.specs.declared.certificate.CertificateRow.{CertificateRow}
+
+-- the entries of the table, of which directory 4 has the place
+abbrev pub certificates : List ℕ → Headers → List Entry
+certificates file h = certificates_of file (slice_get h.directories.items 4)
+
+-- a row, with its content as bytes
+abbrev pub certificate_text : CertificateRow → Entry
+certificate_text r = record { offset = r.offset; length = r.length; revision = r.revision; kind = r.kind; bytes = r.bytes.now }

@@ -1,3 +1,0 @@
-mod Few
-pub mod Opened
-mod Rows

@@ -1,8 +1,0 @@
-use Rattle.std.proofs.Common.{◌∙◌, sym}
-use Rattle.std.proofs.lemmas.List.{length-map}
-use Rattle.coff_object_c.specs.SymbolRows.{symbols_of}
-use Rattle.coff_object_c.proofs.symbol.symbol_count.Goals as goal
-
-pub returns : goal.returns
-unfolding symbols_of
-returns c = c.symbol_count.ensures ∙ length-map _ _ ∙ sym (length-map _ _)

@@ -1,3 +1,0 @@
-pub mod HeaderRecords
-pub mod Relocations
-pub mod SymbolRows

@@ -1,3 +1,0 @@
-mod FewStrings
-mod Filled
-mod Keys

@@ -1,6 +1,0 @@
-use Rattle.std.proofs.Common.{sym}
-use Rattle.pe_resources_c.proofs.Keys.{other_len}
-use Rattle.pe_resources_c.proofs.version_text.is_utf16.Goals as goal
-
-pub returns-then-units-text : goal.returns-then-units-text
-returns-then-units-text c = sym (other_len c.args.units.now c.args.text.now c.if-units-text.true)

@@ -1,1 +1,0 @@
-pub use Rattle.pe_view.specs.View

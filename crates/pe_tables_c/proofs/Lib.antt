@@ -1,6 +1,0 @@
-mod Fields
-mod FirstFound
-mod Found
-mod Functions
-mod Steps
-pub mod Telling

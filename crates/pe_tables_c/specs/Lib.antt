@@ -1,9 +1,0 @@
-pub mod BoundImportRows
-pub mod DebugRows
-pub mod FieldRows
-pub mod Findings
-pub mod FunctionRows
-pub mod PdbRows
-pub mod TableNames
-pub mod TlsRows
-pub mod Told

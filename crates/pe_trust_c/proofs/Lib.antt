@@ -1,8 +1,0 @@
-pub mod FewRows
-pub mod FilledRows
-mod FindingParts
-mod PresentFaults
-mod RichPairs
-mod Rows
-mod Signed
-mod SmallFiles

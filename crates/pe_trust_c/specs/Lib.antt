@@ -1,9 +1,0 @@
-pub mod AllFindings
-pub mod CertificateRows
-pub mod DigestRecords
-pub mod FileRecords
-pub mod ImportHash
-pub mod RichRows
-pub mod SignatureRows
-pub mod SignerRows
-pub mod TrustFindings
