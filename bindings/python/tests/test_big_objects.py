@@ -316,7 +316,7 @@ class BigObjects(InFolder):
         for words in (["object"], ["object", "--most", "1M"]):
             status, text, told = self.run_on(header(), *words)
             self.assertEqual((status, text), (1, "fault 62 image 0 file 0x00000000\n"))
-            self.assertTrue(told.endswith("it is a /bigobj object\n"), told)
+            self.assertTrue(told.endswith("; it is a /bigobj object, which --big reads\n"), told)
 
     def test_a_plain_object_has_the_same_lines_with_the_word(self):
         for name in ("o1.obj", "two.obj"):
