@@ -188,6 +188,8 @@ def header_rows(it, image, wanted):
     end = max([it.headers, *(section.pointer + section.raw_size for section in it.sections if section.pointer)])
     if image and it.file_size > end:
         yield f"  Overlay      {counted(it.file_size - end, 'byte')} after the sections, from file 0x{end:x}"
+    if image and it.is_as_in_memory:
+        yield "  Layout       that of memory, it seems: SizeOfImage bytes, and zeros in place of raw data, where tables are read"
 
 
 def section_rows(sections):
@@ -575,11 +577,18 @@ def field_words(image, rva):
     return ""
 
 
-def section_called(sections, word, first):
+def numbers_of(numbers):
+    """The numbers of sections in words: at most 16 of them, and how many more there are."""
+    told, more = [str(number) for number in numbers[:16]], len(numbers) - 16
+    last = f"{more} more" if more > 0 else told.pop()
+    return f"{', '.join(told)} and {last}"
+
+
+def section_called(sections, word, first, offset):
     """The index of the section with this number, or with this name if no other has it."""
     found = [i for i, it in enumerate(sections) if (i + first == int(word) if word.isdigit() else it.name == os.fsencode(word))]
     if len(found) > 1:
-        raise NoPlace("several sections have this name: a number says which")
+        raise NoPlace(f"sections {numbers_of([i + first for i in found])} have this name: {found[0] + first}+{offset:x} is the place in the first")
     if not found:
         raise NoPlace("there is no such section")
     return found[0]
@@ -588,7 +597,8 @@ def section_called(sections, word, first):
 def in_section(sections, word, first, size_of):
     """The section of SECTION+OFFSET, its index, and the offset."""
     name, _, offset = word.rpartition("+")
-    index, offset = section_called(sections, name, first), int(offset, 16)
+    offset = int(offset, 16)
+    index = section_called(sections, name, first, offset)
     if offset >= size_of(sections[index]):
         raise NoPlace("the place is outside the section")
     return sections[index], index, offset

@@ -103,6 +103,9 @@ class Headers:
         for section in self.sections:
             text = text_in(strings, long_name_at(section.field) or 0)
             section.name = section.name if text is None else text
+        before = next((file[it.pointer : min(it.pointer + it.in_file, it.rva)] for it in self.sections if it.in_file), b"")
+        #: It has SizeOfImage bytes, and zeros where its first raw data is to be.
+        self.is_as_in_memory = len(file) == self.size and bool(before) and not any(before)
 
 
 class Image:

@@ -316,7 +316,7 @@ class BigObjects(InFolder):
         for words in (["object"], ["object", "--most", "1M"]):
             status, text, told = self.run_on(header(), *words)
             self.assertEqual((status, text), (1, "fault 62 image 0 file 0x00000000\n"))
-            self.assertTrue(told.endswith("it is a /bigobj object\n"), told)
+            self.assertTrue(told.endswith("; it is a /bigobj object, which --big reads\n"), told)
 
     def test_a_plain_object_has_the_same_lines_with_the_word(self):
         for name in ("o1.obj", "two.obj"):
@@ -360,6 +360,19 @@ class BigObjects(InFolder):
         self.assertEqual(done.returncode, 0)
         told = [line for line in done.stdout.decode().split("\n") if line.startswith("file 0x")]
         self.assertEqual([line.split("  ", 1)[1] for line in told], list(places.values()))
+
+    def test_sections_of_one_name_are_told_by_their_numbers(self):
+        first = ", ".join(str(number) for number in range(1, 17))
+        for count, numbers in [
+            (2, "1 and 2"), (3, "1, 2 and 3"), (16, "1, 2, 3, 4, 5, 6, 7, 8, 9, 10, 11, 12, 13, 14, 15 and 16"), (17, f"{first} and 1 more"),
+            (70000, f"{first} and 69984 more"),
+        ]:
+            with self.subTest(count):
+                self.write("a.obj", many_sections(count))
+                for offset in ("0", "2", "0x12ab"):
+                    done = run([PROGRAM, "at", "a.obj", f".text+{offset}"], cwd=self.folder)
+                    words = f"sections {numbers} have this name: 1+{int(offset, 16):x} is the place in the first\n"
+                    self.assertEqual((done.returncode, done.stdout.decode()), (0, words))
 
     def test_files_that_claim_too_much(self):
         for fault, at, claimed in CLAIMS:

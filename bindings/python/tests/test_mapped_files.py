@@ -39,6 +39,12 @@ def relocated():
     return bytes(file)
 
 
+def section_table(file):
+    """Where the first section header of an image's file is."""
+    header = struct.unpack_from("<I", file, 0x3C)[0]
+    return header + 24 + struct.unpack_from("<H", file, header + 20)[0]
+
+
 #: Sets, as names, files and bases.
 BOUND = [("a.dll", data("va.dll"), 0x10000000), ("b.dll", data("vb.dll"), 0x20000000), ("c.exe", data("vc.dll"), 0x400000)]
 MOVED = [("r.dll", relocated(), 0x12340000)]
@@ -106,6 +112,25 @@ class MappedFiles(OverFiles, unittest.TestCase):
                 lines = run([PROGRAM, "map", *words], cwd=self.folder).stdout.decode().splitlines()
                 shown = b"".join(bytes.fromhex(line.split(" ", 1)[1]) for line in lines if line.startswith("0x"))
                 self.assertEqual(shown, images[name][rva : rva + 4096])
+
+    def test_show_says_of_them_that_their_layout_is_that_of_memory(self):
+        row = "  Layout       that of memory, it seems: SizeOfImage bytes, and zeros in place of raw data, where tables are read"
+        self.assert_written(BOUND + MOVED)
+        for name, file, _ in BOUND + MOVED:
+            run([PROGRAM, "layout", f"in/{name}", "laid"], cwd=self.folder)
+            for path, has_row in [(f"in/{name}", 0), (f"out/{name}", 1), ("laid", 1)]:
+                with self.subTest(path, name=name):
+                    shown = run([PROGRAM, "show", path], cwd=self.folder).stdout.decode().split("\n")
+                    self.assertEqual(shown.count(row), has_row)
+                    piped = run([PROGRAM, "show", "-"], cwd=self.folder, input=(self.folder / path).read_bytes()).stdout.decode().split("\n")
+                    self.assertEqual(piped[1:], shown[1:])
+            # a byte that is no zero where raw data is to be, or one byte more, and it is a file as any other
+            written = bytearray((self.folder / "out" / name).read_bytes())
+            (self.folder / "more").write_bytes(written + b"\0")
+            written[struct.unpack_from("<I", file, section_table(file) + 20)[0]] = 1
+            (self.folder / "other").write_bytes(written)
+            for path in ("more", "other"):
+                self.assertNotIn(row, run([PROGRAM, "show", path], cwd=self.folder).stdout.decode().split("\n"))
 
     def test_known_and_unbound(self):
         mixed = importing((b"x.dll", [3]), (b"B.DLL", [5]))

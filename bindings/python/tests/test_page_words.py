@@ -6,7 +6,7 @@ import unittest
 
 import petool
 
-from . import TOP, script
+from . import TOP, data, script
 from .files import changed, numbers
 from .finding_pages import PROGRAM, FindingPages
 from .test_created_archives import coff
@@ -45,6 +45,27 @@ class PageWords(FindingPages, unittest.TestCase):
             with self.subTest(words):
                 (row,) = self.parts(changed("v1.dll", (SECTION_FLAGS, numbers(flags | 0x40))))["Sections (1)"][1:]
                 self.assertIn(f" {words} data ", row)
+
+    def test_contents_of_sections(self):
+        for flags, word in [(0x20, "code"), (0x60, "code"), (0xE0, "code"), (0x40, "data"), (0xC0, "data"), (0x80, "bss"), (0, "-"), (0x10, "-")]:
+            with self.subTest(hex(flags)):
+                (row,) = self.parts(changed("v1.dll", (SECTION_FLAGS, numbers(flags))))["Sections (1)"][1:]
+                self.assertRegex(row, rf" --- {word} +0x")
+
+    def test_sections_of_symbols(self):
+        for number, words in [(0, "UNDEFINED"), (0xFFFF, "ABSOLUTE"), (0xFFFE, "DEBUG"), (1, "1 .text")]:
+            with self.subTest(words):
+                parts = self.parts(coff((b"f", 7, number, EXTERNAL)), "--symbols")
+                (row,) = next(rows for heading, rows in parts.items() if heading.startswith("Symbols"))
+                self.assertRegex(row, rf"0x00000007 +{words} +EXTERNAL +f$")
+
+    def test_what_images_and_objects_are(self):
+        for file, words in [
+            (data("v1.dll"), "PE32 library for I386"), (data("vc.dll"), "PE32 program for I386"), (data("v3.dll"), "PE32+ library for AMD64"),
+            (data("vd.dll"), "PE32+ program for AMD64"), (changed("v1.dll", (0x44, b"\x34\x12")), "PE32 library for 0x1234"), (coff(), "COFF object for AMD64"),
+        ]:
+            with self.subTest(words):
+                self.assertTrue(any(heading.startswith(f"a: accepted: {words}, ") for heading in self.parts(file)), words)
 
     def test_comdat_selections(self):
         for selection, word in SELECTIONS.items():

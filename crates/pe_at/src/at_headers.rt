@@ -6,6 +6,7 @@ ghost use Rattle.pe_page.specs.Page.{AddsSome};
 use crate::at_place::where_cells;
 use crate::file_places::write_unlaid;
 use crate::header_places::header_row;
+use crate::no_place::NoPlace;
 use crate::row_name::row_cells;
 use crate::spot::{OUTSIDE, Spot, offset_in_section};
 use coff_read::ImageStrings;
@@ -68,11 +69,7 @@ fn site_of_address(headers: &Headers, address: u64) -> Option<Site> {
 }
 
 /// The place that a user says, or what is said if there is none.
-fn site_of(
-    headers: &Headers,
-    strings: Option<ImageStrings>,
-    spot: &Spot,
-) -> Result<Site, &'static [u8]> {
+fn site_of(headers: &Headers, strings: Option<ImageStrings>, spot: &Spot) -> Result<Site, NoPlace> {
     let site = match spot {
         Spot::At(Place::Rva(rva)) => site_of_rva(headers, *rva),
         Spot::At(Place::File(offset)) => site_of_offset(headers, *offset),
@@ -81,13 +78,13 @@ fn site_of(
         Spot::In { section, offset } => {
             return match offset_in_section(headers, strings, section, *offset) {
                 Ok((index, rva)) => Ok((rva, Some(index))),
-                Err(words) => Err(words),
+                Err(none) => Err(none),
             };
         }
     };
     match site {
         Some(site) => Ok(site),
-        None => Err(OUTSIDE),
+        None => Err(NoPlace::Words(OUTSIDE)),
     }
 }
 
@@ -161,7 +158,7 @@ fn write_spot<W: Sink>(
 {
     match site_of(headers, file.strings(headers), spot) {
         Ok(site) => write_site(text, file, headers, names, site),
-        Err(words) => write_unlaid(text, file, headers, spot, words),
+        Err(none) => write_unlaid(text, file, headers, spot, &none),
     }
 }
 

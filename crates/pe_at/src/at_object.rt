@@ -7,6 +7,7 @@ ghost use Rattle.pe_text.specs.Outcome.{IsOutcomeOf};
 ghost use Rattle.pe_text.specs.TextWriter.{IsReady};
 ghost use Rattle.pe_page.specs.Page.{AddsSome};
 
+use crate::no_place::NoPlace;
 use crate::object_places::place_row;
 use crate::placed_symbols::STATIC;
 use crate::relocation_width::relocation_width;
@@ -72,37 +73,37 @@ impl<'o, 'a, A: Allocator + Copy> ReadObject<'o, 'a, A> {
     }
 
     /// The place that has a file offset.
-    fn place_at(&self, offset: u64) -> Result<ObjectPlace, &'static [u8]> {
+    fn place_at(&self, offset: u64) -> Result<ObjectPlace, NoPlace> {
         match self.section_at(offset) {
             Some((index, behind)) => Ok(ObjectPlace::Section(index, behind)),
             None if offset < self.file.len() as u64 => Ok(ObjectPlace::File(offset)),
-            None => Err(OUTSIDE_FILE),
+            None => Err(NoPlace::Words(OUTSIDE_FILE)),
         }
     }
 
     /// The place at an offset of the section that is called so.
-    fn place_in(&self, section: &[u8], offset: u32) -> Result<ObjectPlace, &'static [u8]> {
+    fn place_in(&self, section: &[u8], offset: u32) -> Result<ObjectPlace, NoPlace> {
         let mut search = SectionSearch::new(section);
         for (index, section) in self.sections.iter().enumerate() {
             search.look_at(index, index.saturating_add(1), section.name);
         }
-        let index = match search.end() {
+        let index = match search.end(offset) {
             Ok(index) => index,
-            Err(words) => return Err(words),
+            Err(none) => return Err(none),
         };
         match self.sections.get(index) {
             Some(section) if u64::from(offset) < sizes_of(&section.raw).0 => {
                 Ok(ObjectPlace::Section(index, u64::from(offset)))
             }
-            _ => Err(OUTSIDE_SECTION),
+            _ => Err(NoPlace::Words(OUTSIDE_SECTION)),
         }
     }
 
     /// The place that a user says, or what is said if there is none.
-    fn place_of(&self, spot: &Spot) -> Result<ObjectPlace, &'static [u8]> {
+    fn place_of(&self, spot: &Spot) -> Result<ObjectPlace, NoPlace> {
         match spot {
             Spot::At(Place::File(offset)) => self.place_at(*offset),
-            Spot::At(_) => Err(NO_RVA),
+            Spot::At(_) => Err(NoPlace::Words(NO_RVA)),
             Spot::In { section, offset } => self.place_in(section, *offset),
         }
     }
@@ -335,7 +336,7 @@ fn write_spot<A: Allocator + Copy, W: Sink>(
 {
     match read.place_of(spot) {
         Ok(place) => write_place(alloc, text, read, place),
-        Err(words) => text.text(words),
+        Err(none) => none.write(text),
     }
 }
 

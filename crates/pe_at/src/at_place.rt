@@ -13,6 +13,7 @@ use crate::at_object::symbol_cells;
 use crate::file_places::write_unlaid;
 use crate::header_places::header_row;
 use crate::leaf_place::write_leaf_at;
+use crate::no_place::NoPlace;
 use crate::placed_symbols::{PlacedSymbol, nearest_symbol};
 use crate::row_name::{RowName, row_cells};
 use crate::spot::{OUTSIDE, Spot, offset_in_section};
@@ -370,16 +371,16 @@ fn rva_at(
     headers: &Headers,
     strings: Option<ImageStrings>,
     spot: &Spot,
-) -> Result<u32, &'static [u8]> {
+) -> Result<u32, NoPlace> {
     match spot {
         Spot::At(place) => match rva_of(layout, *place) {
             Some(rva) => Ok(rva),
-            None => Err(OUTSIDE),
+            None => Err(NoPlace::Words(OUTSIDE)),
         },
         Spot::In { section, offset } => {
             match offset_in_section(headers, strings, section, *offset) {
                 Ok((_, rva)) => Ok(rva),
-                Err(words) => Err(words),
+                Err(none) => Err(none),
             }
         }
     }
@@ -398,7 +399,7 @@ fn write_spot<A: Allocator + Copy, W: Sink>(
 {
     match rva_at(&image.layout, headers, image.file.strings(headers), spot) {
         Ok(rva) => write_at(text, image, headers, names, rva),
-        Err(words) => write_unlaid(text, image.file, headers, spot, words),
+        Err(none) => write_unlaid(text, image.file, headers, spot, &none),
     }
 }
 

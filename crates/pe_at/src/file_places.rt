@@ -3,6 +3,7 @@
 ghost use Rattle.pe_text.specs.TextWriter.{IsReady};
 ghost use Rattle.pe_page.specs.Page.{AddsSome};
 
+use crate::no_place::NoPlace;
 use crate::spot::Spot;
 use pe_head::{Headers, directory_index};
 use pe_page::Cell::{self, Plain};
@@ -132,13 +133,13 @@ fn place_cells(offset: u64, place: FilePlace) -> [Cell<'static>; 7] {
     ]
 }
 
-/// Adds what of the file has a spot that is not laid out, or else these words.
+/// Adds what of the file has a spot that is not laid out, or else what is said of one that has no place.
 pub(crate) fn write_unlaid<W: Sink>(
     text: &mut TextWriter<W>,
     file: ViewFile,
     headers: &Headers,
     spot: &Spot,
-    words: &[u8],
+    none: &NoPlace,
 )
     requires { IsReady W.failures text.old }
     ensures { AddsSome W.taken W.failures text.old text.new }
@@ -148,6 +149,6 @@ pub(crate) fn write_unlaid<W: Sink>(
             write_cells(text, &place_cells(offset, place));
             text.text(b"\n");
         }
-        None => text.text(words),
+        None => none.write(text),
     }
 }

@@ -12,6 +12,7 @@ mod at_place;
 mod file_places;
 mod header_places;
 mod leaf_place;
+mod no_place;
 mod object_places;
 mod placed_symbols;
 mod relocation_width;

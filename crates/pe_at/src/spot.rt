@@ -1,5 +1,6 @@
 //! `Spot`: a place of an image or an object, as its user says it.
 
+use crate::no_place::{NoPlace, SameName};
 use coff_read::{ImageStrings, section_name};
 use pe_head::Headers;
 use pe_view::Place;
@@ -13,9 +14,6 @@ pub(crate) const OUTSIDE_SECTION: &[u8] = b"the place is outside the section\n";
 
 /// What is said if no section has the number or the name.
 const NO_SECTION: &[u8] = b"there is no such section\n";
-
-/// What is said if several sections have the name.
-const SEVERAL_SECTIONS: &[u8] = b"several sections have this name: a number says which\n";
 
 /// A place of an image or an object, as its user says it.
 #[derive(Clone, Copy)]
@@ -44,7 +42,7 @@ pub(crate) struct SectionSearch<'a> {
     section: &'a [u8],
     number: Option<usize>,
     found: Option<usize>,
-    is_several: bool,
+    same: SameName,
 }
 
 impl<'a> SectionSearch<'a> {
@@ -54,7 +52,7 @@ impl<'a> SectionSearch<'a> {
             section,
             number: number_of(section),
             found: None,
-            is_several: false,
+            same: SameName::new(),
         }
     }
 
@@ -65,32 +63,34 @@ impl<'a> SectionSearch<'a> {
             None => self.section == name,
         };
         if is_called {
-            self.is_several = self.found.is_some();
             self.found = Some(index);
+            self.same.add(number);
         }
     }
 
-    /// The index of the only section that was found, or what is said if there is none or more than one.
-    pub fn end(self) -> Result<usize, &'static [u8]> {
-        match self.found {
-            Some(_) if self.is_several => Err(SEVERAL_SECTIONS),
+    /// The index of the only section that was found, or what is said of an offset if there is none or more than one.
+    pub fn end(self, offset: u32) -> Result<usize, NoPlace> {
+        let SectionSearch { found, same, .. } = self;
+        match found {
+            Some(_) if same.are_several() => Err(NoPlace::Several(same, offset)),
             Some(index) => Ok(index),
-            None => Err(NO_SECTION),
+            None => Err(NoPlace::Words(NO_SECTION)),
         }
     }
 }
 
-/// The index of the section of an image that is called so.
+/// The index of the section of an image that is called so, of whose offset a place is asked.
 fn section_called(
     headers: &Headers,
     strings: Option<ImageStrings>,
     section: &[u8],
-) -> Result<usize, &'static [u8]> {
+    offset: u32,
+) -> Result<usize, NoPlace> {
     let mut search = SectionSearch::new(section);
     for (index, header) in headers.sections.as_slice().iter().enumerate() {
         search.look_at(index, index, section_name(strings, &header.name));
     }
-    search.end()
+    search.end(offset)
 }
 
 /// The index of a section of an image that is called by its number or its name, and the RVA of an offset in it; or what is said if
@@ -100,16 +100,16 @@ pub(crate) fn offset_in_section(
     strings: Option<ImageStrings>,
     section: &[u8],
     offset: u32,
-) -> Result<(usize, u32), &'static [u8]> {
-    let index = match section_called(headers, strings, section) {
+) -> Result<(usize, u32), NoPlace> {
+    let index = match section_called(headers, strings, section, offset) {
         Ok(index) => index,
-        Err(words) => return Err(words),
+        Err(none) => return Err(none),
     };
     let Some(header) = headers.sections.as_slice().get(index) else {
-        return Err(NO_SECTION);
+        return Err(NoPlace::Words(NO_SECTION));
     };
     match header.virtual_address.checked_add(offset) {
         Some(rva) if offset < header.extent() => Ok((index, rva)),
-        _ => Err(OUTSIDE_SECTION),
+        _ => Err(NoPlace::Words(OUTSIDE_SECTION)),
     }
 }

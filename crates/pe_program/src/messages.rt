@@ -63,6 +63,15 @@ struct Told {
     kind: Option<FileKind>,
 }
 
+/// What more is said of a file of the wrong kind: by faults 61 and 62, which only `object` without `--big` has of a big object, that
+/// there is this option.
+fn remedy(fault: &Fault, kind: FileKind) -> &'static str {
+    match (fault.number, kind) {
+        (61 | 62, FileKind::BigObject) => ", which --big reads",
+        _ => "",
+    }
+}
+
 impl Display for Told {
     fn fmt<W: fmt::Write>(&self, f: &mut fmt::Formatter<W>) -> fmt::Result {
         write!(f, "{}", self.fault)?;
@@ -70,7 +79,7 @@ impl Display for Told {
             write!(f, ": {detail}")?;
         }
         match self.kind {
-            Some(kind) => write!(f, "; {kind}"),
+            Some(kind) => write!(f, "; {kind}{}", remedy(&self.fault.0, kind)),
             None => Ok(()),
         }
     }

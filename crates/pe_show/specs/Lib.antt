@@ -1,5 +1,7 @@
 pub use Rattle.pe_text.specs.Engine
 pub use Rattle.pe_text.specs.TextWriter
 pub use Rattle.pe_page.specs.Judged
+pub mod MemoryLayout
 pub mod Places
 pub mod Rows
+pub mod Words

@@ -1,34 +1,50 @@
 //! The auxiliary records of symbols.
 
+ghost use Rattle.std.specs.Prelude.{◌≡◌, option_map};
+ghost use Rattle.pe_head.specs.Names.{name_in};
 ghost use Rattle.pe_text.specs.TextWriter.{IsReady};
 ghost use Rattle.pe_page.specs.Page.{AddsSome};
+ghost use Rattle.pe_show.specs.Words.{selection_names, search_names};
 
 use coff_read::{Aux, BigAux, BigSymbol, EitherObject, Symbol};
+use pe_head::{Named, name_among};
 use pe_page::Cell::{self, Plain};
 use pe_page::write_cells;
-use pe_text::Part::{Hex, Text};
+use pe_text::Part::{Hex, Name, Text};
 use pe_text::{Sink, TextWriter};
 
-/// The name of a COMDAT selection, after a blank ("PE Format", COMDAT Sections).
-fn selection_name(selection: u8) -> &'static [u8] {
-    match selection {
-        1 => b" NODUPLICATES",
-        2 => b" ANY",
-        3 => b" SAME_SIZE",
-        4 => b" EXACT_MATCH",
-        5 => b" ASSOCIATIVE",
-        6 => b" LARGEST",
-        _ => b"",
-    }
+/// The COMDAT selections, without IMAGE_COMDAT_SELECT_ ("PE Format", COMDAT Sections).
+static SELECTIONS: [Named; 6] = [
+    (1, "NODUPLICATES"),
+    (2, "ANY"),
+    (3, "SAME_SIZE"),
+    (4, "EXACT_MATCH"),
+    (5, "ASSOCIATIVE"),
+    (6, "LARGEST"),
+];
+
+/// How weak externals are searched for, without IMAGE_WEAK_EXTERN_SEARCH_ ("PE Format", Auxiliary Format 3: Weak Externals).
+static SEARCHES: [Named; 3] = [(1, "NOLIBRARY"), (2, "LIBRARY"), (3, "ALIAS")];
+
+/// The name of a COMDAT selection, if it has one.
+fn selection_name(selection: u8) -> Option<&'static str>
+    ensures { option_map (λ name. name.now) result ≡ name_in selection_names selection }
+{
+    name_among(&SELECTIONS, u32::from(selection))
 }
 
-/// The name of how a weak external is searched for, after a blank ("PE Format", Auxiliary Format 3: Weak Externals).
-fn search_name(search: u32) -> &'static [u8] {
-    match search {
-        1 => b" NOLIBRARY",
-        2 => b" LIBRARY",
-        3 => b" ALIAS",
-        _ => b"",
+/// The name of how a weak external is searched for, if it has one.
+fn search_name(search: u32) -> Option<&'static str>
+    ensures { option_map (λ name. name.now) result ≡ name_in search_names search }
+{
+    name_among(&SEARCHES, search)
+}
+
+/// A name after a blank, if there is one.
+fn after_blank(name: Option<&'static str>) -> Cell<'static> {
+    match name {
+        Some(name) => Plain(Name(Some(name.as_bytes()))),
+        None => Plain(Name(None)),
     }
 }
 
@@ -45,7 +61,7 @@ fn write_selection<W: Sink>(text: &mut TextWriter<W>, selection: u8, section: u3
     if selection == 0 {
         return;
     }
-    let name = Plain(Text(selection_name(selection)));
+    let name = after_blank(selection_name(selection));
     write_cells(
         text,
         &[Plain(Text(b", COMDAT ")), number(selection as u32), name],
@@ -135,7 +151,7 @@ fn write_record<W: Sink>(text: &mut TextWriter<W>, record: &Aux)
                 number(*tag_index),
                 Plain(Text(b", search ")),
                 number(*search),
-                Plain(Text(search_name(*search))),
+                after_blank(search_name(*search)),
             ],
         ),
         Aux::File { name } => write_cells(text, &[Plain(Text(b"file ")), Cell::Name(name)]),

@@ -3,9 +3,11 @@
 ghost use Rattle.pe_text.specs.TextWriter.{IsReady};
 ghost use Rattle.pe_page.specs.Page.{AddsSome};
 
+use crate::memory_layout::is_as_in_memory;
 use pe_head::Headers;
 use pe_page::Cell::{self, Plain};
 use pe_page::{plural, write_cells};
+use pe_reach::ViewFile;
 use pe_text::Part::{Hex, Text};
 use pe_text::{Sink, TextWriter};
 use pe_trust::file_end;
@@ -60,17 +62,30 @@ fn write_overlay<W: Sink>(text: &mut TextWriter<W>, headers: &Headers, len: u64)
     );
 }
 
-/// Adds the rows of the symbol table, which is read or not, and of what comes after the sections, if an image's file of `len` bytes has
+/// Adds the row that a file has its image as it is laid out in memory, if it shows that.
+fn write_layout<W: Sink>(text: &mut TextWriter<W>, headers: &Headers, file: ViewFile)
+    requires { IsReady W.failures text.old }
+    ensures { AddsSome W.taken W.failures text.old text.new }
+{
+    if is_as_in_memory(headers, file) {
+        text.text(
+            b"  Layout       that of memory, it seems: SizeOfImage bytes, and zeros in place of raw data, where tables are read\n",
+        );
+    }
+}
+
+/// Adds the rows of the symbol table, which is read or not, of what comes after the sections, and of the layout, if an image's file has
 /// them.
 pub(crate) fn write_others<W: Sink>(
     text: &mut TextWriter<W>,
     headers: &Headers,
-    len: u64,
+    file: ViewFile,
     is_read: bool,
 )
     requires { IsReady W.failures text.old }
     ensures { AddsSome W.taken W.failures text.old text.new }
 {
     write_symbol_table(text, headers, is_read);
-    write_overlay(text, headers, len);
+    write_overlay(text, headers, file.len());
+    write_layout(text, headers, file);
 }

@@ -1,7 +1,11 @@
 //! The rows of a page for an image's headers.
 
+ghost use Rattle.std.specs.Prelude.{◌≡◌, flat_map, option_map};
+ghost use Rattle.pe_text.specs.Part.{part_text};
 ghost use Rattle.pe_text.specs.TextWriter.{IsReady};
 ghost use Rattle.pe_page.specs.Page.{AddsSome};
+ghost use Rattle.pe_show.specs.Rows.{type_text};
+ghost use Rattle.pe_show.specs.Words.{image_text, kind_text, no_date_text};
 
 use pe_head::{FlagKind, Headers, Magic, characteristic, machine_name, subsystem_name};
 use pe_page::Cell::{self, Plain};
@@ -10,24 +14,43 @@ use pe_text::Part::{self, Decimal, Hex, Hex4, Hex8, Text};
 use pe_text::{Sink, TextWriter, write_parts};
 
 /// A value's name, or its number if the format has no name for it.
-pub(crate) fn named(name: Option<&'static str>, value: u16) -> [Part<'static>; 2] {
+fn named(name: Option<&'static str>, value: u16) -> [Part<'static>; 2]
+    ensures { flat_map part_text result ≡ type_text (option_map (λ name. name.now) name.entry) value }
+{
     match name {
         Some(name) => [Text(name.as_bytes()), Text(b"")],
         None => [Text(b"0x"), Hex4(value)],
     }
 }
 
-/// What an image is.
-pub(crate) fn image_kind(headers: &Headers) -> Kind {
-    let [machine, number] = named(machine_name(headers.machine), headers.machine);
+/// What a file is: these words, and the name of the machine that it is for, or its number if the format has no name for it.
+pub(crate) fn kind_of(words: &'static [u8], machine: u16) -> Kind
+    ensures { flat_map part_text result ≡ kind_text words.now machine }
+{
+    match machine_name(machine) {
+        Some(name) => [Text(words), Text(name.as_bytes()), Text(b""), Text(b", ")],
+        None => [Text(words), Text(b"0x"), Hex4(machine), Text(b", ")],
+    }
+}
+
+/// What an image is, before the machine that it is for.
+fn image_words(headers: &Headers) -> &'static [u8]
+    ensures { result.now ≡ image_text headers.now }
+{
     let is_library = headers.characteristics & characteristic::DLL != 0;
-    let kind: &[u8] = match (headers.magic, is_library) {
+    match (headers.magic, is_library) {
         (Magic::Pe32, false) => b"PE32 program for ",
         (Magic::Pe32, true) => b"PE32 library for ",
         (Magic::Pe32Plus, false) => b"PE32+ program for ",
         (Magic::Pe32Plus, true) => b"PE32+ library for ",
-    };
-    [Text(kind), machine, number, Text(b", ")]
+    }
+}
+
+/// What an image is: `PE32+ library for AMD64, `.
+pub(crate) fn image_kind(headers: &Headers) -> Kind
+    ensures { flat_map part_text result ≡ kind_text (image_text headers.now) headers.now.machine }
+{
+    kind_of(image_words(headers), headers.machine)
 }
 
 /// The first time stamp that may be a date: the beginning of 1990. The format is younger.
@@ -37,7 +60,9 @@ const FIRST_DATE: u32 = 631_152_000;
 const LAST_DATE: u32 = 0x7fff_ffff;
 
 /// Why a time stamp is no date, if it is none.
-fn no_date(seconds: u32, is_reproducible: bool) -> Option<&'static [u8]> {
+fn no_date(seconds: u32, is_reproducible: bool) -> Option<&'static [u8]>
+    ensures { option_map (λ words. words.now) result ≡ no_date_text seconds is_reproducible }
+{
     if is_reproducible {
         Some(b"reproducible build")
     } else if seconds < FIRST_DATE {

@@ -131,7 +131,7 @@ fn write_image<A: Allocator + Copy, W: Sink>(
     let entry = names.place(layout, headers.address_of_entry_point);
     write_title(text, page, outcome, image_kind(&headers), file.len());
     write_headers(text, page, &headers, Some(entry), is_reproducible(layout));
-    write_others(text, &headers, file.len(), page.options.symbols);
+    write_others(text, &headers, file, page.options.symbols);
     write_identity(
         text,
         page.options,

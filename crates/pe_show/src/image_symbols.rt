@@ -1,7 +1,11 @@
 //! The symbols of an image.
 
+ghost use Rattle.std.specs.Prelude.{◌≡◌};
+ghost use Rattle.coff_read.specs.BigView.{belongs_view};
 ghost use Rattle.pe_text.specs.TextWriter.{IsReady};
 ghost use Rattle.pe_page.specs.Page.{AddsSome};
+ghost use Rattle.pe_page.specs.Places.{name_at};
+ghost use Rattle.pe_show.specs.Words.{symbol_section_text};
 
 use crate::auxiliary::write_records;
 use crate::symbols::{Widths, number_of, section_words, write_symbol};
@@ -13,7 +17,9 @@ use pe_text::{ShowOptions, Sink, TextWriter};
 use std::alloc::Allocator;
 
 /// The name of a symbol's section, or a word for symbols outside sections.
-fn section_name<'a>(names: &SectionNames<'a>, section: BigSection) -> &'a [u8] {
+fn section_name<'a>(names: &SectionNames<'a>, section: BigSection) -> &'a [u8]
+    ensures { result.now ≡ symbol_section_text (name_at names.now.names.items) (belongs_view section) }
+{
     match number_of(section) {
         Some(number) => names.get((number as usize).saturating_sub(1)),
         None => section_words(&[], section),

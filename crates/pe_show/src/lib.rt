@@ -28,6 +28,7 @@ mod header_rows;
 mod image;
 mod image_symbols;
 mod imports;
+mod memory_layout;
 mod object;
 mod object_sections;
 mod sections;

@@ -1,18 +1,19 @@
 //! The page of a COFF object.
 
 ghost use Rattle.std.specs.Prelude.{◌≡◌, ◌<◌, length, IfOk, OnErr};
-ghost use Rattle.coff_read.specs.EitherObject.{form_in};
+ghost use Rattle.coff_read.specs.EitherObject.{form_in, form_of};
 ghost use Rattle.coff_read.specs.FormFaults.{object_tests};
 ghost use Rattle.pe_text.specs.TextWriter.{IsReady};
 ghost use Rattle.pe_page.specs.Page.{AddsSome};
 ghost use Rattle.pe_text.specs.Outcome.{IsOutcomeOf};
+ghost use Rattle.pe_show.specs.Words.{object_text};
 
 use crate::fault::write_refusal;
-use crate::header_rows::{named, write_flag_row, write_stamp};
+use crate::header_rows::{kind_of, write_flag_row, write_stamp};
 use crate::object_sections::{write_relocations, write_sections};
 use crate::symbols::write_symbols;
 use coff_read::{EitherObject, FileSection};
-use pe_head::{FlagKind, machine_name};
+use pe_head::FlagKind;
 use pe_page::Cell::{self, Plain};
 use pe_page::{Page, SymbolNames, read_sections, write_cells, write_title};
 use pe_reach::ViewFile;
@@ -44,7 +45,9 @@ fn write_header<W: Sink>(text: &mut TextWriter<W>, page: &Page, object: &EitherO
 }
 
 /// What an object is, before the machine that it is for.
-fn kind_words(object: &EitherObject) -> &'static [u8] {
+fn kind_words(object: &EitherObject) -> &'static [u8]
+    ensures { result.now ≡ object_text (form_of object.now) }
+{
     if object.is_big() {
         b"/bigobj object for "
     } else {
@@ -66,8 +69,7 @@ fn write_object<A: Allocator + Copy, W: Sink>(
     ensures { AddsSome W.taken W.failures text.old text.new }
 {
     let machine = object.machine();
-    let [name, number] = named(machine_name(machine), machine);
-    let kind = [Text(kind_words(object)), name, number, Text(b", ")];
+    let kind = kind_of(kind_words(object), machine);
     write_title(text, page, Outcome::Done, kind, len);
     write_header(text, page, object);
     write_sections(text, page, sections);

@@ -1,7 +1,9 @@
 //! The table of an image's sections.
 
+ghost use Rattle.std.specs.Prelude.{◌≡◌};
 ghost use Rattle.pe_text.specs.TextWriter.{IsReady};
 ghost use Rattle.pe_page.specs.Page.{AddsSome};
+ghost use Rattle.pe_show.specs.Words.{content_text};
 
 use pe_head::{FlagKind, Headers, SectionHeader, section_flag};
 use pe_page::Cell::{self, Plain};
@@ -20,8 +22,10 @@ struct Widths {
     file: u8,
 }
 
-/// The contents of a section: code, initialized data, or uninitialized data.
-pub(crate) fn content(flags: u32) -> &'static [u8] {
+/// The contents of a section by its flags: code, initialized data, or uninitialized data ("PE Format", Section Flags).
+pub(crate) fn content(flags: u32) -> &'static [u8]
+    ensures { result.now ≡ content_text flags }
+{
     if flags & section_flag::CODE != 0 {
         b"code"
     } else if flags & section_flag::INITIALIZED_DATA != 0 {

@@ -3,9 +3,11 @@
 ghost use Rattle.std.specs.Prelude.{◌≡◌, ◌==◌, ◌<◌, ◌≤◌, AllPairs, length, option_map};
 ghost use Rattle.std.specs.List.{find};
 ghost use Rattle.std.specs.List.Sorted.{IsPartitionPoint};
+ghost use Rattle.coff_read.specs.BigView.{belongs_view};
 ghost use Rattle.pe_text.specs.TextWriter.{IsReady, Adds};
 ghost use Rattle.pe_page.specs.Page.{AddsSome};
 ghost use Rattle.pe_show.specs.Rows.{class_text, function_text, number_text, symbol_row};
+ghost use Rattle.pe_show.specs.Words.{section_name_at, section_number, symbol_section_text};
 
 use crate::auxiliary::write_object_records;
 use coff_read::{BigSection, BigSymbol, EitherObject, FileSection, storage_class_name};
@@ -15,8 +17,10 @@ use pe_page::{
 use pe_text::{ShowOptions, Sink, TextWriter};
 use std::alloc::{AllocError, Allocator};
 
-/// The name of a symbol's section, or a word for symbols outside sections.
-pub(crate) fn section_words<'a>(sections: &[FileSection<'a>], section: BigSection) -> &'a [u8] {
+/// The name of a symbol's section, or a word for symbols outside sections ("PE Format", Section Number Values).
+pub(crate) fn section_words<'a>(sections: &[FileSection<'a>], section: BigSection) -> &'a [u8]
+    ensures { result.now ≡ symbol_section_text (section_name_at sections.now) (belongs_view section) }
+{
     match section {
         BigSection::Undefined => b"UNDEFINED",
         BigSection::Absolute => b"ABSOLUTE",
@@ -29,7 +33,9 @@ pub(crate) fn section_words<'a>(sections: &[FileSection<'a>], section: BigSectio
 }
 
 /// The number of a symbol's section, if it has one.
-pub(crate) fn number_of(section: BigSection) -> Option<u32> {
+pub(crate) fn number_of(section: BigSection) -> Option<u32>
+    ensures { result ≡ section_number (belongs_view section) }
+{
     match section {
         BigSection::Section(number) => Some(number),
         _ => None,
