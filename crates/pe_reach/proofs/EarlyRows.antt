@@ -1,7 +1,6 @@
 -- Which faults the first bytes of a file and its size decide.
-use Rattle.std.proofs.Common.{◌≡◌, ◌+◌, ◌^◌, ℕ, List, [], ◌∷◌, ◌++◌, take, None, Some, refl}
-use Rattle.std.specs.Prelude.{Option, codes, replicate}
-use Rattle.pe_view.specs.declared.fault.Fault.{Fault}
+use Rattle.std.proofs.Common.{◌≡◌, ◌+◌, ◌^◌, ℕ, List, [], ◌∷◌, take, None, Some, refl}
+use Rattle.std.specs.Prelude.{codes, replicate}
 use Rattle.pe_view.specs.declared.fault.Place.TheVariants.{File}
 use Rattle.pe_view.specs.Faults.{first_standing}
 use Rattle.pe_reach.specs.Reach.{early_tests}

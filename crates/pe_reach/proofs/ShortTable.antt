@@ -1,7 +1,7 @@
 -- A string table that begins as a longer one gives those sections the same names that are named by it.
 use Rattle.std.proofs.Common.{◌≡◌, ℕ, zero, suc, ◌+◌, ◌-◌, ◌*◌, ◌<◌, ◌≤◌, Bool, true, false, List, [], ◌∷◌, ◌++◌, length, take, drop, get_or, Option, None, Some, Result, Ok, Err, refl, sym, ◌∙◌, ap, ap₂, arith}
 use Rattle.std.specs.Prelude.{◌==◌, ◌&&◌, not, map, min, option_map, is_some, nat_lt, nat_le, IfOk, MatchResult, if◌then◌else◌}
-use Rattle.std.specs.List.{list_all, slice_range}
+use Rattle.std.specs.List.{list_all}
 use Rattle.std.specs.Option.{unwrap_or}
 use Rattle.std.proofs.lemmas.Bool.{and_parts, le-leb, ltb-false}
 use Rattle.std.proofs.lemmas.List.{ext_get_or, get_or-take, get_or-drop, length-take, length-drop, take_all, take-append-drop, take-take, get_or-append-add}

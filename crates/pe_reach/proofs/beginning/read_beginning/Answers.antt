@@ -1,6 +1,5 @@
-use Rattle.std.proofs.Common.{rules, ◌≡◌, ◌∙◌, ◌+◌, ◌<◌, ◌≤◌, ◌^◌, ℕ, List, length, vec_len, get_or, true, false, sym, ap, arith, inl, inr}
+use Rattle.std.proofs.Common.{rules, ◌≡◌, ◌∙◌, ◌+◌, ◌<◌, ℕ, length, vec_len, get_or, false, sym, ap, arith, inl, inr}
 use Rattle.std.specs.Prelude.{is_some}
-use Rattle.pe_reach.specs.Parts.{Part, HasPart, HasParts}
 use Rattle.pe_reach.specs.PartsRead.{has_headers}
 use Rattle.pe_reach.proofs.PartBytes.{early_within, begins_as, none_is}
 use Rattle.pe_reach.proofs.beginning.read_beginning.Goals as goal

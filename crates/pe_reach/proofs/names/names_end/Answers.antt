@@ -1,4 +1,4 @@
-use Rattle.std.proofs.Common.{ℕ, List, length, ◌∙◌, sym, ap, arith}
+use Rattle.std.proofs.Common.{ℕ, List, length, ◌∙◌, ap, arith}
 use Rattle.pe_view.specs.Number.{num, byte_of}
 use Rattle.coff_read.specs.ImageNames.{image_strings}
 use Rattle.pe_reach.proofs.SectionNames.{short_names, names_without, names_long, names_held}

@@ -1,9 +1,8 @@
-use Rattle.std.proofs.Common.{◌≡◌, ◌+◌, ◌∙◌, ℕ, List, Option, true, length, vec_len, refl, sym, ap, ap₂, subst, arith, rules}
+use Rattle.std.proofs.Common.{◌≡◌, ◌+◌, ◌∙◌, ℕ, List, Option, true, length, vec_len, sym, ap, ap₂, arith, rules}
 use Rattle.std.specs.List.{list_all}
 use Rattle.pe_head.specs.declared.section.SectionHeader.{SectionHeader}
 use Rattle.coff_read.specs.ImageNames.{image_strings}
 use Rattle.pe_reach.specs.PartNames.{is_named, with_strings}
-use Rattle.pe_reach.specs.Parts.{Stand}
 use Rattle.pe_reach.proofs.ShortTable.{short_names_same, same_strings}
 use Rattle.pe_reach.proofs.part_names.read_short_table.Goals as goal
 

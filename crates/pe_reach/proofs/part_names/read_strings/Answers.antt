@@ -9,7 +9,7 @@ use Rattle.pe_reach.specs.Parts.{Part, HasPart}
 use Rattle.pe_reach.specs.PartNames.{with_strings}
 use Rattle.pe_reach.proofs.PartBytes.{all_first, all_rest, early_on, early_within}
 use Rattle.pe_reach.proofs.SectionNames.{short_names, no_table, past_table, long_table}
-use Rattle.pe_reach.proofs.StringTable.{names_same, names_absent}
+use Rattle.pe_reach.proofs.StringTable.{names_absent}
 use Rattle.pe_reach.proofs.part_names.read_strings.Goals as goal
 use Rattle.pe_reach.proofs.part_names.read_strings.Goals.{then-headers-eq0-via-then-headers-eq0, then-headers-eq0-via-else-headers-eq0+then-not-has_long_name}
 

@@ -1,4 +1,4 @@
-use Rattle.std.proofs.Common.{◌≡◌, ◌+◌, ◌≤◌, ◌∙◌, ℕ, List, length, vec_len, max, refl, sym, arith, rules}
+use Rattle.std.proofs.Common.{◌≡◌, ◌+◌, length, vec_len, refl, sym, arith, rules}
 use Rattle.coff_read.specs.ImageNames.{strings_size}
 use Rattle.pe_reach.proofs.ShortTable.{match_more}
 use Rattle.pe_reach.proofs.StringTable.{names_same}

@@ -1,4 +1,4 @@
-use Rattle.std.proofs.Common.{◌∙◌, sym, arith}
+use Rattle.std.proofs.Common.{◌∙◌, sym}
 use Rattle.pe_reach.proofs.Looks.{settled}
 use Rattle.pe_reach.proofs.view_reading.image_limit.Goals as goal
 

@@ -1,4 +1,4 @@
-use Rattle.std.proofs.Common.{◌≡◌, ◌∙◌, ◌++◌, ℕ, List, length, arith, ap, sym, append_assoc, inl, inr}
+use Rattle.std.proofs.Common.{◌∙◌, ◌++◌, ℕ, List, length, arith, ap, sym, append_assoc, inl, inr}
 use Rattle.pe_reach.specs.Views.{LookAlike}
 use Rattle.pe_reach.proofs.Sizes.{ran, ran_refused, ran-unread}
 use Rattle.pe_reach.proofs.view_report.run_view.Goals as goal
