@@ -228,15 +228,18 @@ LLVM_SECTION = {
 
 def names_differ(file, row):
     """How the sections differ from those of llvm-readobj: their names, their 8 bytes and their fields."""
-    theirs = []
+    theirs, is_object = [], row["format"] in ("COFF", "BIGOBJ")
     for line in read_obj(file, "--sections"):
         name = re.fullmatch(rb"Name: (.*) \(((?:[0-9A-F]{2} ){7}[0-9A-F]{2})\)", line)
         flags = re.fullmatch(rb"Characteristics \[ \(0x([0-9A-F]+)\)", line)
+        alignment = re.fullmatch(rb"IMAGE_SCN_ALIGN_(\d+)BYTES \(0x[0-9A-F]+\)", line)
         key, _, value = line.partition(b": ")
         if name:
             theirs.append({"name": name[1], "bytes": bytes.fromhex(name[2].decode())})
         elif flags and theirs:
             theirs[-1]["characteristics"] = int(flags[1], 16)
+        elif alignment and theirs and is_object:
+            theirs[-1]["alignment"] = int(alignment[1])
         elif key.decode() in LLVM_SECTION and theirs:
             theirs[-1][LLVM_SECTION[key.decode()]] = read_number(value)
     ours = []
@@ -244,7 +247,7 @@ def names_differ(file, row):
         name = name_in(it, "name")
         short = name_in(it, "short_name")
         ours.append({"name": name, "bytes": (name if short is None else short).ljust(8, b"\0")})
-        ours[-1] |= {key: it[key] for key in [*LLVM_SECTION.values(), "characteristics"]}
+        ours[-1] |= {key: it[key] for key in [*LLVM_SECTION.values(), "characteristics", "alignment"] if key in it}
         COUNTS["long names of sections"] += name[:1] != b"/" and short is not None
     COUNTS["sections"] += len(ours)
     if ours != theirs:

@@ -323,7 +323,7 @@ def trust_members(trust, has_digests):
     if has_digests:
         rows["check_sum_computed"] = trust.check_sum()
         rows |= {} if message is None else {"authenticode_sha256_hex": hashlib.sha256(message).hexdigest()}
-    if trust.table and trust.table[1]:
+    if trust.table:
         rows["certificates"] = [certificate_row(trust, entry, has_digests) for entry in trust.certificates]
     return rows | overlay_member(trust) | rich_member(trust)
 

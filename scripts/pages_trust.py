@@ -122,7 +122,9 @@ class Trust:
         self.file, self.headers = file, headers
         self.pe = uint(file, 60, 4)
         self.entry = self.pe + 24 + (96 if headers.magic == 0x10B else 112) + 8 * CERTIFICATE
-        self.table = headers.directories[CERTIFICATE] if len(headers.directories) > CERTIFICATE else None
+        self.has_entry = len(headers.directories) > CERTIFICATE
+        # an offset or a Size of 0 is that of no table
+        self.table = headers.directories[CERTIFICATE] if self.has_entry and all(headers.directories[CERTIFICATE]) else None
         self.certificates, self.stop = self.read_certificates()
         self.rich, self.mark = self.read_rich()
         self.findings = [*self.certificate_findings()] + ([(241, self.mark)] if self.mark is not None and self.rich is None else [])
@@ -151,7 +153,7 @@ class Trust:
         return section.pointer and self.table[0] < section.pointer + section.raw_size and section.pointer < sum(self.table)
 
     def certificate_findings(self):
-        if self.table is None or not self.table[1]:
+        if self.table is None:
             return
         if sum(self.table) > len(self.file):
             yield 221, self.entry
@@ -169,8 +171,8 @@ class Trust:
         section in ascending order, and what comes after them but for as many bytes as the certificate table has; None if raw data leave a
         gap or overlap, or if the table is not after them at the end of the file."""
         end, size = self.headers.headers, self.table[1] if self.table else 0
-        parts = [self.file[: self.pe + 88], self.file[self.pe + 92 : self.entry if self.table else end]]
-        if self.table:
+        parts = [self.file[: self.pe + 88], self.file[self.pe + 92 : self.entry if self.has_entry else end]]
+        if self.has_entry:
             parts.append(self.file[self.entry + 8 : end])
         for section in sorted((it for it in self.headers.sections if it.raw_size), key=lambda it: it.pointer):
             if section.pointer != end:
@@ -179,7 +181,7 @@ class Trust:
             parts.append(self.file[section.pointer : end])
         parts.append(self.file[end : len(self.file) - size])
         is_last = end <= self.table[0] and sum(self.table) == len(self.file) if size else end <= len(self.file)
-        return b"".join(parts) if is_last and (self.table is None or self.entry + 8 <= self.headers.headers) else None
+        return b"".join(parts) if is_last and (not self.has_entry or self.entry + 8 <= self.headers.headers) else None
 
     def words(self, bound):
         return [uint(self.file, at, 4) for at in range(0x40, min(bound, len(self.file)) - 3, 4)]
@@ -215,7 +217,7 @@ def overlay(trust):
     end = max([headers.headers, *(it.pointer + it.raw_size for it in headers.sections if it.pointer)])
     if len(file) <= end:
         return None
-    if trust.table and trust.table[1] and trust.table[0] == end:
+    if trust.table and trust.table[0] == end:
         words = "the certificate table"
     elif headers.symbols == end and headers.symbol_count:
         words = "the symbol table"

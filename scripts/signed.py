@@ -191,7 +191,7 @@ def check(path, line, source):
         COUNTS["with a fault of the headers"] += 1
         return
     trust = Trust(file, Headers(file))
-    message, case, has_table = trust.message(), reason(trust), bool(trust.table and trust.table[1])
+    message, case, has_table = trust.message(), reason(trust), trust.table is not None
     own = line.get("authenticode_sha256_hex")
     signature = next((it for it in line.get("certificates", []) if "digest_hex" in it), None)
     has_finding = any(it["number"] == 225 for it in line.get("findings", []))

@@ -49,6 +49,8 @@ export interface Section extends Named {
   pointer_to_raw_data: number;
   characteristics: number;
   characteristics_flags: string[];
+  /** Of an object's section whose flags tell one: its alignment in bytes. */
+  alignment?: number;
   /** Of an object. */
   relocations?: Relocation[];
 }

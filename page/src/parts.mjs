@@ -56,7 +56,7 @@ function imageParts({ headers, sections, directories }) {
     })),
     ...symbolPart(headers, FORMS.COFF.symbol),
   ];
-  return [...parts, ...directories.filter(({ size }) => size).map(directory => directoryPart(parts, directory))];
+  return [...parts, ...directories.filter(({ virtual_address: at, size }) => at && size).map(directory => directoryPart(parts, directory))];
 }
 
 /** A table that a directory names, which lies in a section, or for certificates behind them. */

@@ -29,10 +29,10 @@ const named = row => String(row.name ?? row.module ?? row.key ?? row.member ?? '
 const byRva = (key, sizeKey) => row => (typeof row[key] === 'number' ? { rva: row[key], size: row[sizeKey], name: named(row) } : null);
 const byOffset = (key, sizeKey) => row => (typeof row[key] === 'number' ? { offset: row[key], size: row[sizeKey], name: named(row) } : null);
 
-/** A directory leads to an RVA, that of certificates to a file offset, and one of no bytes nowhere. */
+/** A directory leads to an RVA, that of certificates to a file offset, and one of no bytes, or whose place is 0, nowhere. */
 function directoryPlace({ name, virtual_address: at, size }) {
   const target = { size, name: `${name} table` };
-  return size ? { ...target, ...(name === 'certificate' ? { offset: at } : { rva: at }) } : null;
+  return at && size ? { ...target, ...(name === 'certificate' ? { offset: at } : { rva: at }) } : null;
 }
 
 const sectionPlace = section => (section.virtual_address || section.virtual_size ? byRva('virtual_address', 'virtual_size') : byOffset('pointer_to_raw_data', 'size_of_raw_data'))(section);

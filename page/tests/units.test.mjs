@@ -24,7 +24,8 @@ const section = (index, name, virtual, raw, characteristics) => ({
 const IMAGE = {
   format: 'PE32',
   headers: { size_of_headers: 0x200, size_of_image: 0x5000, pointer_to_symbol_table: 0, number_of_symbols: 0 },
-  directories: [{ index: 0, name: 'export', virtual_address: 0x1100, size: 0x40 }, { index: 1, name: 'import', virtual_address: 0, size: 0 }, { index: 4, name: 'certificate', virtual_address: 0x800, size: 0x100 }],
+  directories: [{ index: 0, name: 'export', virtual_address: 0x1100, size: 0x40 }, { index: 1, name: 'import', virtual_address: 0, size: 0 }, { index: 4, name: 'certificate', virtual_address: 0x800, size: 0x100 },
+    { index: 6, name: 'debug', virtual_address: 0, size: 28 }],
   sections: [section(0, '.text', [0x1000, 0x300], [0x200, 0x400], 0x60000020), section(1, '.data', [0x2000, 0x400], [0x600, 0x200], 0xc0000040), section(2, '.bss', [0x3000, 0x100], [0, 0], 0xc0000080)],
 };
 
@@ -182,7 +183,7 @@ test('rows lead to the places that they are about', () => {
   const tables = new Map(tablesOf(line, [], false).map(table => [table.id, table]));
   const placesOf = id => tables.get(id).rows.map(row => tables.get(id).place(row));
   assert.deepEqual(placesOf('exports'), [{ rva: 0x1010, size: undefined, name: 'f' }, null]);
-  assert.deepEqual(placesOf('directories'), [{ rva: 0x1100, size: 0x40, name: 'export table' }, null, { offset: 0x800, size: 0x100, name: 'certificate table' }]);
+  assert.deepEqual(placesOf('directories'), [{ rva: 0x1100, size: 0x40, name: 'export table' }, null, { offset: 0x800, size: 0x100, name: 'certificate table' }, null]);
   assert.deepEqual(placesOf('symbols'), [{ rva: 0x2004, name: 's' }]);
   assert.deepEqual(tables.get('pages').rows, [{ rva: 0x1000, fields: 2 }, { rva: 0x2000, fields: 1 }]);
   assert.deepEqual(tables.get('signers').rows, [{ subject: 'A', offset: 0x800 }, { subject: 'B', offset: 0x800 }]);

@@ -28,6 +28,7 @@ from .test_trust import (
     SIZE,
     SOUND,
     SUBJECT,
+    at_nothing,
     certificate,
     digest_of,
     each_byte_changed,
@@ -155,9 +156,11 @@ class OwnWords(unittest.TestCase):
     def test_an_unsigned_file_has_a_digest_unless_that_is_ambiguous(self):
         for file, is_told in [(sectioned(SIZE), True), (sectioned(2 * SIZE, SIZE), True), (sectioned(SIZE) + b"more", True), (sectioned(SIZE, SIZE), False),
                               (sectioned(3 * SIZE, SIZE), False), (sectioned(SIZE)[:-1], False)]:
-            with trust(file) as it:
-                self.assertEqual(it.authenticode_digest(), digest_of(file, SHA256) if is_told else None)
-                self.assertEqual(it.findings, ())
+            # a Size at the offset 0 is no table either
+            for unsigned in (file, at_nothing(file, 8), at_nothing(file, 0xFFFFFFFF)):
+                with trust(unsigned) as it:
+                    self.assertEqual(it.authenticode_digest(), digest_of(unsigned, SHA256) if is_told else None)
+                    self.assertEqual((it.certificates, it.authenticode, it.findings), ((), (), ()))
 
     def test_algorithms(self):
         with trust(image()) as it:

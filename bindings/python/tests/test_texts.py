@@ -38,7 +38,7 @@ for _name in ("texts", "views"):
 COUNTS = {
     "head": 93, "layout": 34, "find": 28, "tables": 172, "check": 33, "dump": 49, "object": 102, "begins": 81,
     "rebase": 43, "rebased": 8, "map": 14, "faults": 1, "kind": 35, "names": 1,
-    "show": 70, "json": 66, "refusal": 51, "at": 99,
+    "show": 70, "json": 68, "refusal": 51, "at": 99,
 }  # fmt: skip
 
 PLACES = {
@@ -375,6 +375,19 @@ class Program(Cases):
             self.assertEqual(symbol["storage_class"], value)
             if "storage_class_name" in symbol:
                 yield f"class {value:#x} {symbol['storage_class_name']}"
+
+    def test_alignments(self):
+        """Bits 20 to 23 of the flags of an object's section tell its alignment; in an image's section they tell none."""
+        file, image = bytearray(data("o1.obj")), bytearray(data("v1.dll"))
+        flags = [0x60000020 | number << 20 for number in range(16)]
+        rows = self.lines_of([bytes(put(file, (0x38, struct.pack("<I", it)))) for it in flags])
+        for number, row in enumerate(rows):
+            section = row["sections"][0]
+            self.assertEqual(section.get("alignment"), 1 << number - 1 if 1 <= number <= 14 else None)
+            self.assertEqual([key for key in list(section)[-3:] if key != "number_of_linenumbers" and key != "characteristics"],
+                             ["characteristics_flags", *["alignment"] * ("alignment" in section), "relocations"])
+        for row in self.lines_of([bytes(put(image, (0x15C, struct.pack("<I", it)))) for it in flags]):
+            self.assertNotIn("alignment", row["sections"][0])
 
     def types(self):
         """The names of the types of relocations, for the machines whose types have names."""

@@ -3,6 +3,7 @@ import hash; and each finding on these by a file of its own. The signatures are 
 are Python's."""
 
 import hashlib
+import json
 import os
 import pathlib
 import re
@@ -72,7 +73,7 @@ def image(table=b"", at=END, size=None, after=b"", field=0):
 def digest_of(file, algorithm):
     """The digest of what a signature of an image signs, whose table is after the headers and the raw data at the end of the file."""
     start, size = struct.unpack_from("<II", file, ENTRY)
-    return hashlib.new(HASHES[algorithm], file[:FIELD] + file[FIELD + 4 : ENTRY] + file[ENTRY + 8 : start if size else len(file)]).digest()
+    return hashlib.new(HASHES[algorithm], file[:FIELD] + file[FIELD + 4 : ENTRY] + file[ENTRY + 8 : start if start and size else len(file)]).digest()
 
 
 def with_table(file, table):
@@ -192,6 +193,14 @@ SOUND = [image(), image(entry(b"")), image(entry(b"1234567") + entry(b"", 1)), i
          sectioned(SIZE, SIZE), sectioned(3 * SIZE, SIZE)]
 
 
+def at_nothing(file, size):
+    """A file whose directory 4 has a Size and the offset 0, which is that of no table."""
+    return bytes(put(bytearray(file), (ENTRY, numbers(0, size))))
+
+
+SOUND += [at_nothing(file, size) for file in (image(after=b"more"), sectioned(SIZE), sectioned(SIZE, SIZE)) for size in (7, 8, len(file), 0xFFFFFFFF)]
+
+
 @unittest.skipUnless(PROGRAM, "left out without program: PETOOL_PROGRAM names none")
 class Trust(unittest.TestCase):
     maxDiff = None
@@ -291,10 +300,23 @@ class Trust(unittest.TestCase):
     def test_a_table_before_the_end_of_its_directory_signs_nothing(self):
         file = signed(SHA256)
         size = struct.unpack_from("<I", file, ENTRY + 4)[0]
-        moved = bytearray(put(bytearray(file), (ENTRY, numbers(0))))
+        moved = bytearray(put(bytearray(file), (ENTRY, numbers(8))))
         self.assertEqual([], [row for row in self.trust(bytes(moved)) if "digest" in row])
         past = bytes(put(bytearray(file), (ENTRY + 4, numbers(size + 1))))
         self.assertEqual("    signed digest SHA-256", self.trust(past)[1])
+
+    def test_a_table_at_offset_0_is_none(self):
+        file = at_nothing(image(after=b"more"), END + 4)
+        self.assertEqual([], self.trust(file))
+        self.assertEqual([f"  Overlay      4 bytes at file 0x{END:x}, begins with other data"], self.overlay(file))
+        self.assertEqual([f"file 0x{END:x}  overlay +0x0"], self.at(file, END))
+        done = run([PROGRAM, "json", "--all", "a"], cwd=self.folder)
+        line = json.loads(done.stdout.decode())
+        self.assertEqual({"certificates", "findings"} & set(line), set())
+        self.assertEqual(digest_of(file, SHA256).hex(), line["authenticode_sha256_hex"])
+        self.assertEqual("other data", line["overlay"]["begins_with"])
+        done = run([PROGRAM, "rebase", f"{0x20000000:x}", "a", "new"], cwd=self.folder)
+        self.assertNotIn("certificate", done.stderr.decode())
 
     def test_rich_header(self):
         file, key = rich(PAIRS)

@@ -1,2 +1,3 @@
+pub mod LineValues
 pub mod Members
 pub mod Rows

@@ -5,6 +5,7 @@ pub use Rattle.pe_text.specs.Engine
 pub mod ArchiveJson
 pub mod ArchiveLine
 pub mod ImportMembers
+pub mod JsonLines
 pub mod Line
 pub mod MemberLine
 pub mod SymbolRows

@@ -17,6 +17,7 @@
 mod archive_line;
 mod engine;
 mod import;
+pub mod laws;
 mod line;
 mod lines;
 mod member_line;

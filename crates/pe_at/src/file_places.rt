@@ -5,13 +5,13 @@ ghost use Rattle.pe_page.specs.Page.{AddsSome};
 
 use crate::no_place::NoPlace;
 use crate::spot::Spot;
-use pe_head::{Headers, directory_index};
+use pe_head::Headers;
 use pe_page::Cell::{self, Plain};
 use pe_page::{NOTHING, write_cells};
 use pe_reach::ViewFile;
 use pe_text::Part::{Decimal, Hex, Text};
 use pe_text::{Sink, TextWriter};
-use pe_trust::{Certificates, file_end};
+use pe_trust::{Certificates, certificate_table, file_end};
 use pe_view::{Place, View};
 
 /// The size of a record of the symbol table in bytes.
@@ -54,10 +54,7 @@ fn certificate_at(file: View, headers: &Headers, offset: u64) -> Option<FilePlac
 
 /// The certificate table, if it has an offset.
 fn certificate_table_at(headers: &Headers, offset: u64) -> Option<FilePlace> {
-    let table = headers
-        .directories
-        .as_slice()
-        .get(directory_index::CERTIFICATE)?;
+    let table = certificate_table(headers)?;
     let distance = distance_in(u64::from(table.rva), u64::from(table.size), offset)?;
     Some(FilePlace {
         name: b"certificate table",

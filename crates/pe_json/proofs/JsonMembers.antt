@@ -8,7 +8,7 @@ use Rattle.std.proofs.lemmas.Str.{IsUtf8-from_is_utf8}
 use Rattle.std.proofs.lemmas.Grind.{flat_map-append, common_steps}
 use Rattle.json.specs.Print.{quoted, escape, escape_byte}
 use Rattle.pe_text.specs.Text.{glyph, hex, hex_at_least}
-use Rattle.pe_json.specs.JsonText.{hex_string, member, number, name_as, name, wide, wide_string, text_if, address_string, numbered_rows}
+use Rattle.pe_json.specs.JsonText.{hex_string, member, number, number_if, name_as, name, wide, wide_string, text_if, address_string, numbered_rows}
 use Rattle.pe_json.specs.Shown.{shown_string}
 use Rattle.pe_json.proofs.Escapes.{itself}
 use Rattle.pe_json.proofs.Printed.{IsValue, IsMember, AreValues, AreMembers, is_string, is_word, is_number}
@@ -109,6 +109,12 @@ pub text_members : (limit : ℕ) (key : List ℕ) (t : Option (List ℕ)) → Is
 unfolding text_if
 text_members limit key None key_ascii utf8 = tt
 text_members limit key (Some text) key_ascii utf8 = (string_member limit key text key_ascii utf8, tt)
+
+-- a number that may be left out
+pub number_if_members : (limit : ℕ) (key : List ℕ) (n : Option ℕ) → IsAsciiText key → AreMembers limit (number_if key n)
+unfolding number_if
+number_if_members limit key None key_ascii = tt
+number_if_members limit key (Some n) key_ascii = (number_member limit key n key_ascii, tt)
 
 -- ---- rows
 pub row_values : {Row : Type 0} (limit : ℕ) (row : Row → List ℕ) (rows : List Row) → ((r : Row) → IsValue limit (row r)) → AreValues limit (map row rows)

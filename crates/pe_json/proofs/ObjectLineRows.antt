@@ -14,10 +14,10 @@ use Rattle.coff_read.specs.Records.{Symbol}
 use Rattle.coff_read.specs.TypeNames.{storage_class_names, amd64_type_names, i386_type_names}
 use Rattle.coff_read.specs.declared.symbol.SymbolSection.TheVariants as belongs
 use Rattle.pe_json.specs.Shown.{shown, shown_character}
-use Rattle.pe_json.specs.JsonText.{with_commas, hex_string, member, object, list, text_if}
+use Rattle.pe_json.specs.JsonText.{with_commas, hex_string, member, object, list, number_if, text_if}
 use Rattle.pe_json.specs.Headers.{coff_numbers, coff_members, place_members, directories_list}
 use Rattle.pe_json.specs.Sections.{short_name, name_members, section_fields, section_row}
-use Rattle.pe_json.specs.ObjectLine.{relocation_numbers, relocation_row, aux_members, aux_row, symbol_name, section_of_symbol, symbol_fields, symbol_row, object_members, object_line}
+use Rattle.pe_json.specs.ObjectLine.{alignment_members, relocation_numbers, relocation_row, aux_members, aux_row, symbol_name, section_of_symbol, symbol_fields, symbol_row, object_members, object_line}
 use Rattle.pe_json.specs.Line.{first_members}
 
 data_section : SectionHeader
@@ -61,6 +61,15 @@ relocation = refl
 unnamed_type : relocation_row 0x14c (record { address = 458; symbol = 34; kind = 4 }) ≡ codes "{\"virtual_address\":458,\"symbol_table_index\":34,\"type\":4}"
 unfolding relocation_numbers member object with_commas text_if chars encode shown shown_character escape_byte digits i386_type_names
 unnamed_type = refl
+
+-- 16 bytes, and none
+aligned : alignment_members 0x60500020 ≡ codes "\"alignment\":16" ∷ []
+unfolding member number_if escape_byte digits
+aligned = refl
+
+not_aligned : alignment_members 0xc0000040 ≡ []
+unfolding number_if
+not_aligned = refl
 
 file_symbol : Symbol
 file_symbol = record {

@@ -5,6 +5,7 @@ use Rattle.std.specs.List.{range_with_len}
 use Rattle.pe_view.specs.Number.{part}
 use Rattle.pe_head.specs.Names.{Names, name_in, machine_names}
 use Rattle.pe_head.specs.declared.section.SectionHeader.{SectionHeader}
+use Rattle.coff_read.specs.Alignment.{alignment_of}
 use Rattle.coff_read.specs.Auxiliary as auxiliary
 use Rattle.coff_read.specs.Auxiliary.{AuxRecord}
 use Rattle.coff_read.specs.BigLeft.{indexed}
@@ -25,9 +26,9 @@ use Rattle.pe_json.specs.Headers.{coff_members}
 use Rattle.pe_json.specs.JsonText.{member}
 use Rattle.pe_json.specs.Sections.{section_members}
 use Rattle.json.specs.Print.{quoted}
-use Rattle.pe_json.specs.ObjectLine.{relocation_numbers, relocation_row, relocations_members, object_section_row, sections_of, aux_members, aux_row, aux_row_at, aux_list, aux_list_members, symbol_name, section_of_symbol, symbol_fields, symbol_row, format_name, header_members, object_members}
+use Rattle.pe_json.specs.ObjectLine.{alignment_members, relocation_numbers, relocation_row, relocations_members, object_section_row, sections_of, aux_members, aux_row, aux_row_at, aux_list, aux_list_members, symbol_name, section_of_symbol, symbol_fields, symbol_row, format_name, header_members, object_members}
 use Rattle.pe_json.proofs.Printed.{IsValue, IsMember, AreMembers, items_value, members_value}
-use Rattle.pe_json.proofs.JsonMembers.{is_member, number_member, word_member, name_member, hex_value, members_then, text_members, row_values, numbered_values}
+use Rattle.pe_json.proofs.JsonMembers.{is_member, number_member, number_if_members, word_member, name_member, hex_value, members_then, text_members, row_values, numbered_values}
 use Rattle.pe_json.proofs.ImageValues.{are_ascii_names, named, machines_ascii, are_coff_members, are_section_members}
 
 -- ---- sections
@@ -60,7 +61,9 @@ section_value : (limit machine index : ℕ) (s : SectionHeader × Section) → I
 section_value limit machine index s =
     members_value (suc (suc limit)) _ (
       number_member _ _ _ refl,
-      members_then _ (section_members s.1.name s.0) (relocations_members machine s.1.relocations) (are_section_members (suc limit) s.1.name s.0) (are_relocations limit machine s.1.relocations),
+      members_then _ (section_members s.1.name s.0) _ (are_section_members (suc limit) s.1.name s.0)
+          (members_then _ (alignment_members s.0.characteristics) (relocations_members machine s.1.relocations)
+          (number_if_members _ _ (alignment_of s.0.characteristics) refl) (are_relocations limit machine s.1.relocations)),
     )
 
 -- ---- auxiliary records

@@ -34,7 +34,7 @@ use Rattle.pe_json.specs.FunctionRows.{function_count_in, count_member, function
 use Rattle.pe_tables.specs.Imports.{Import, imports_of}
 use Rattle.pe_imphash.specs.ImportText.{import_hash_of}
 use Rattle.pe_json.specs.ImageRecords.{record_members, members_beyond, hash_if, own_members}
-use Rattle.pe_json.specs.JsonText.{number_if, wide_if, wide_string}
+use Rattle.pe_json.specs.JsonText.{wide_if, wide_string}
 use Rattle.pe_json.specs.PdbRows.{is_code_view, data_at, path_if, code_view_members, pdb_in, pdb_members}
 use Rattle.pe_json.specs.ResourceRows.{resource_members}
 use Rattle.pe_json.specs.StructureKeys.{load_keys, clr_keys}
@@ -47,7 +47,7 @@ use Rattle.pe_json.specs.TlsRows.{tls_addresses, tls_fields, callback_members, t
 use Rattle.pe_json.specs.declared.structure.StructureKind.{StructureKind}
 use Rattle.pe_json.specs.declared.structure.StructureKind.TheVariants.{LoadConfiguration, ClrHeader}
 use Rattle.pe_json.proofs.Printed.{IsValue, AreValues, AreMembers, is_number, items_value, members_value}
-use Rattle.pe_json.proofs.JsonMembers.{IsAsciiText, is_member, number_member, name_member, wide_member, wide_value, hex_value, members_then, flat_members, text_members, row_values}
+use Rattle.pe_json.proofs.JsonMembers.{IsAsciiText, is_member, number_member, number_if_members, name_member, wide_member, wide_value, hex_value, members_then, flat_members, text_members, row_values}
 use Rattle.coff_read.specs.Forms.{Plain}
 use Rattle.coff_read.specs.ImageSymbols.{image_symbols}
 use Rattle.coff_read.specs.Records.{Symbol}
@@ -140,11 +140,6 @@ are_function_members limit listed machine i (Some d) =
     (are_listed _ listed (rows_in machine bytes) (are_rows_in limit machine bytes))
 
 -- ---- the TLS directory
-are_numbers : (limit : ℕ) (key : List ℕ) (n : Option ℕ) → IsAsciiText key → AreMembers limit (number_if key n)
-unfolding number_if
-are_numbers limit key None key_ascii = tt
-are_numbers limit key (Some n) key_ascii = (number_member _ _ _ key_ascii, tt)
-
 are_wide : (limit : ℕ) (key : List ℕ) (n : Option ℕ) → IsAsciiText key → AreMembers limit (wide_if key n)
 unfolding wide_if
 are_wide limit key None key_ascii = tt
@@ -160,7 +155,7 @@ are_addresses limit t =
 are_tls_fields : (limit : ℕ) (t : TlsDirectory) → AreMembers limit (tls_fields t)
 are_tls_fields limit t =
     members_then _ (tls_addresses t) _ (are_addresses _ t)
-    (members_then _ _ _ (are_numbers _ (codes "size_of_zero_fill") t.size_of_zero_fill refl) (are_numbers _ (codes "characteristics") t.characteristics refl))
+    (members_then _ _ _ (number_if_members _ (codes "size_of_zero_fill") t.size_of_zero_fill refl) (number_if_members _ (codes "characteristics") t.characteristics refl))
 
 are_callbacks : (limit : ℕ) (t : Option CallbackTable) → AreMembers (suc limit) (callback_members t)
 unfolding callback_members

@@ -1,10 +1,11 @@
 -- What a line says of what a file says of itself is JSON.
 use Rattle.std.proofs.Common.{◌≡◌, ◌+◌, ◌-◌, ◌*◌, ◌==◌, ℕ, suc, Bool, true, false, List, [], ◌∷◌, ◌++◌, codes, refl, map, length, Option, None, Some, option_map}
-use Rattle.std.specs.Prelude.{⊤, nat_lt, slice_get, if◌then◌else◌}
+use Rattle.std.specs.Prelude.{⊤, nat_lt, if◌then◌else◌}
 use Rattle.std.specs.List.{range_with_len}
 use Rattle.std.specs.Str.{IsUtf8}
 use Rattle.pe_head.specs.declared.directory.Directory.{Directory}
 use Rattle.pe_head.specs.declared.headers.Headers.{Headers}
+use Rattle.pe_trust.specs.CertificateTable.{certificate_table}
 use Rattle.pe_trust.specs.Certificates.{Entry, certificates_by}
 use Rattle.pe_trust.specs.CheckSum.{check_sum_of}
 use Rattle.pe_trust.specs.Digests.{algorithm_of, digest_of}
@@ -105,11 +106,8 @@ are_certificate_members : (limit : ℕ) (digests : Bool) (file : List ℕ) (mess
     → AreMembers (suc (suc (suc (suc limit)))) (certificate_members digests file message d)
 unfolding certificates_member
 are_certificate_members limit digests file message None = tt
-are_certificate_members limit digests file message (Some t) = by (t.size == 0)
-  where
-    by : (b : Bool) → AreMembers (suc (suc (suc (suc limit)))) (if b then [] else certificates_member (map (certificate_row digests message) (certificates_by file t)))
-    by true = tt
-    by false = (is_member _ _ _ refl (items_value _ _ (row_values _ (certificate_row digests message) (certificates_by file t) (certificate_value limit digests message))), tt)
+are_certificate_members limit digests file message (Some t) =
+    (is_member _ _ _ refl (items_value _ _ (row_values _ (certificate_row digests message) (certificates_by file t) (certificate_value limit digests message))), tt)
 
 -- ---- the Rich header
 pair_value : (limit : ℕ) (p : Pair) → IsValue (suc limit) (pair_row p)
@@ -177,7 +175,7 @@ are_imphash_if limit (Some hash) = (is_member _ _ _ refl (hex_value _ hash), tt)
 pub are_trust_members : (limit : ℕ) (digests : Bool) (file : List ℕ) (h : Headers) → AreMembers (suc (suc (suc (suc limit)))) (trust_members digests file h)
 are_trust_members limit digests file h =
     let message = authenticode_bytes file h in
-    let table = slice_get h.directories.items 4 in
+    let table = certificate_table h in
     members_then _ (digest_members digests file h) _ (are_digests _ digests file h)
     (members_then _ (certificate_members digests file message table) _ (are_certificate_members limit digests file message table)
     (members_then _ (overlay_members file h) (rich_members file h.pe_offset) (are_overlay _ (overlay_kind_of file h) (file_end h) (length file)) (are_rich _ file (rich_of file h.pe_offset))))

@@ -75,11 +75,10 @@ certificate_row digests message e = object
     (number (codes "offset") e.offset
     ∷ (entry_numbers e ++ (text_if (codes "type_name") (type_name e.kind) ++ signature_members digests message e)))
 
--- the member that lists the entries, if there is a table that has bytes
+-- the member that lists the entries, if there is a table
 unfoldable pub certificates_member : List (List ℕ) → List (List ℕ)
 certificates_member rows = member (codes "certificates") (list rows) ∷ []
 
 abbrev pub certificate_members : Bool → List ℕ → Option (List ℕ) → Option Directory → List (List ℕ)
 certificate_members digests file message None = []
-certificate_members digests file message (Some t) =
-    if t.size == 0 then [] else certificates_member (map (certificate_row digests message) (certificates_by file t))
+certificate_members digests file message (Some t) = certificates_member (map (certificate_row digests message) (certificates_by file t))

@@ -5,6 +5,7 @@ use Rattle.json.specs.Print.{quoted}
 use Rattle.pe_view.specs.Number.{part}
 use Rattle.pe_head.specs.Names.{name_in}
 use Rattle.pe_head.specs.declared.section.SectionHeader.{SectionHeader}
+use Rattle.coff_read.specs.Alignment.{alignment_of}
 use Rattle.coff_read.specs.Auxiliary as auxiliary
 use Rattle.coff_read.specs.Auxiliary.{AuxRecord}
 use Rattle.coff_read.specs.BigLeft.{indexed}
@@ -20,7 +21,7 @@ use Rattle.coff_read.specs.TypeNames.{storage_class_names, relocation_type_names
 use Rattle.coff_read.specs.declared.relocation.Relocation.{Relocation}
 use Rattle.coff_read.specs.declared.symbol.SymbolSection.{SymbolSection}
 use Rattle.coff_read.specs.declared.symbol.SymbolSection.TheVariants as belongs
-use Rattle.pe_json.specs.JsonText.{member, object, list, number, name, text_if, hex_string, numbered_rows}
+use Rattle.pe_json.specs.JsonText.{member, object, list, number, number_if, name, text_if, hex_string, numbered_rows}
 use Rattle.pe_json.specs.BigHeader.{big_members}
 use Rattle.pe_json.specs.Headers.{coff_members}
 use Rattle.pe_json.specs.Line.{line}
@@ -39,10 +40,15 @@ relocation_row machine r = object
 unfoldable pub relocations_members : ℕ → List Relocation → List (List ℕ)
 relocations_members machine relocations = member (codes "relocations") (list (map (relocation_row machine) relocations)) ∷ []
 
+-- its alignment in bytes, if its flags tell one
+abbrev pub alignment_members : ℕ → List (List ℕ)
+alignment_members flags = number_if (codes "alignment") (alignment_of flags)
+
 -- a section with its header, and its number from 1
 abbrev pub object_section_row : ℕ → ℕ → SectionHeader × Section → List ℕ
 object_section_row machine index s = object
-    (number (codes "number") index ∷ (section_members s.1.name s.0 ++ relocations_members machine s.1.relocations))
+    (number (codes "number") index
+    ∷ (section_members s.1.name s.0 ++ (alignment_members s.0.characteristics ++ relocations_members machine s.1.relocations)))
 
 -- the sections of an object, each with its header
 abbrev pub sections_of : Form → List ℕ → List (SectionHeader × Section)

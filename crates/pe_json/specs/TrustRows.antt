@@ -1,6 +1,7 @@
 -- What an image's file says of itself, in a line of JSON.
-use Rattle.std.specs.Prelude.{ℕ, ◌+◌, ◌-◌, Bool, true, false, List, [], ◌∷◌, ◌++◌, codes, length, Option, None, Some, option_map, slice_get}
+use Rattle.std.specs.Prelude.{ℕ, ◌+◌, ◌-◌, Bool, true, false, List, [], ◌∷◌, ◌++◌, codes, length, Option, None, Some, option_map}
 use Rattle.pe_head.specs.declared.headers.Headers.{Headers}
+use Rattle.pe_trust.specs.CertificateTable.{certificate_table}
 use Rattle.pe_trust.specs.CheckSum.{check_sum_of}
 use Rattle.pe_trust.specs.Digests.{digest_of}
 use Rattle.pe_trust.specs.Overlay.{file_end}
@@ -57,4 +58,4 @@ imphash_if (Some hash) = member (codes "imphash") (hex_string hash) ∷ []
 abbrev pub trust_members : Bool → List ℕ → Headers → List (List ℕ)
 trust_members digests file h =
     digest_members digests file h
-    ++ (certificate_members digests file (authenticode_bytes file h) (slice_get h.directories.items 4) ++ (overlay_members file h ++ rich_members file h.pe_offset))
+    ++ (certificate_members digests file (authenticode_bytes file h) (certificate_table h) ++ (overlay_members file h ++ rich_members file h.pe_offset))

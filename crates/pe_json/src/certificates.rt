@@ -1,8 +1,9 @@
 //! The certificates of an image's file.
 
-ghost use Rattle.std.specs.Prelude.{◌≡◌, ◌++◌, ◌==◌, [], ◌∷◌, codes, flat_map, map, option_map, slice_get, true};
+ghost use Rattle.std.specs.Prelude.{◌≡◌, ◌++◌, ◌==◌, [], ◌∷◌, codes, flat_map, map, option_map, true};
 ghost use Rattle.pe_text.specs.Text.{hex};
 ghost use Rattle.pe_text.specs.TextWriter.{IsReady, Adds};
+ghost use Rattle.pe_trust.specs.CertificateTable.{certificate_table};
 ghost use Rattle.pe_trust.specs.Certificates.{certificate_view, certificates_left};
 ghost use Rattle.pe_trust.specs.Digests.{algorithm_of};
 ghost use Rattle.pe_trust.specs.DigestsView.{AreDigestsOf};
@@ -18,11 +19,11 @@ ghost use Rattle.pe_json.specs.Listed.{items_text, more};
 ghost use Rattle.pe_json.specs.Strings.{name_value_if};
 
 use crate::string::{write_digits, write_name, write_number, write_text_if};
-use pe_head::{Directory, Headers, directory_index};
+use pe_head::Headers;
 use pe_text::{Sink, TextWriter};
 use pe_trust::{
     Certificate, Certificates, DigestAlgorithm, FileDigests, SignedDigest, Signer, Signers,
-    common_name, signed_digest,
+    certificate_table, common_name, signed_digest,
 };
 use pe_view::View;
 
@@ -290,31 +291,14 @@ fn write_each<W: Sink>(text: &mut TextWriter<W>, of: SignedFile, certificates: C
     }
 }
 
-/// Directory 4, if the headers hold it: the file offset of the certificate table, and its size.
-fn certificate_table(headers: &Headers) -> Option<Directory>
-    ensures { result ≡ slice_get headers.now.directories.items 4 }
-{
-    match headers
-        .directories
-        .as_slice()
-        .get(directory_index::CERTIFICATE)
-    {
-        Some(table) => Some(*table),
-        None => None,
-    }
-}
-
-/// Adds the member that lists the entries of the certificate table, if that has bytes.
+/// Adds the member that lists the entries of the certificate table, if there is one.
 pub(crate) fn write_certificates<W: Sink>(text: &mut TextWriter<W>, of: SignedFile)
     requires { IsReady W.failures text.old }
     ensures { Adds W.taken W.failures text.old text.new
         (more (certificate_members of.entry.digests (bytes_of of.entry.file) (authenticode_bytes (bytes_of of.entry.file) of.entry.headers.now)
-        (slice_get of.entry.headers.now.directories.items 4))) }
+        (certificate_table of.entry.headers.now))) }
 {
-    let Some(table) = certificate_table(of.headers) else {
-        return;
-    };
-    if table.size == 0 {
+    if certificate_table(of.headers).is_none() {
         return;
     }
     text.text(b",\"certificates\":[");

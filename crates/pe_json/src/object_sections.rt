@@ -7,11 +7,13 @@ ghost use Rattle.coff_read.specs.FormReading.{object_of};
 ghost use Rattle.pe_text.specs.TextWriter.{IsReady, Adds};
 ghost use Rattle.pe_json.specs.JsonText.{list, numbered_rows};
 ghost use Rattle.pe_json.specs.Listed.{items_text, more};
-ghost use Rattle.pe_json.specs.ObjectLine.{relocation_numbers, relocation_row, relocations_members, object_section_row, sections_of};
+ghost use Rattle.pe_json.specs.ObjectLine.{alignment_members, relocation_numbers, relocation_row, relocations_members, object_section_row, sections_of};
 
 use crate::sections::write_members;
 use crate::string::{write_number, write_text_if};
-use coff_read::{EitherObject, FileSection, Relocation, Relocations, relocation_type_name};
+use coff_read::{
+    EitherObject, FileSection, Relocation, Relocations, relocation_type_name, section_alignment,
+};
 use pe_head::SectionHeader;
 use pe_text::{Sink, TextWriter};
 
@@ -81,6 +83,17 @@ fn write_relocation_list<W: Sink>(text: &mut TextWriter<W>, machine: u16, reloca
     text.text(b"]");
 }
 
+/// Adds the alignment that the flags of a section tell, if they tell one.
+fn write_alignment<W: Sink>(text: &mut TextWriter<W>, characteristics: u32)
+    requires { IsReady W.failures text.old }
+    ensures { Adds W.taken W.failures text.old text.new (more (alignment_members characteristics)) }
+{
+    let Some(alignment) = section_alignment(characteristics) else {
+        return;
+    };
+    write_number(text, b",\"alignment\":", alignment as u64);
+}
+
 /// Adds a section, with its number from 1.
 fn write_section<W: Sink>(
     text: &mut TextWriter<W>,
@@ -94,6 +107,7 @@ fn write_section<W: Sink>(
 {
     write_number(text, b"{\"number\":", number);
     write_members(text, section.name, header);
+    write_alignment(text, header.characteristics);
     write_relocation_list(text, machine, section.relocations);
     text.text(b"}");
 }

@@ -81,9 +81,9 @@ fn check_sum(first: View) -> Option<u32> {
     first.u32_at(signature.saturating_add(24 + 64))
 }
 
-/// The size of the certificates of the image with these first bytes, if it has that directory ("PE Format", Optional Header Data
-/// Directories).
-fn certificate_size(first: View) -> Option<u32> {
+/// The file offset and the size of the certificates of the image with these first bytes, if it has that directory ("PE Format",
+/// Optional Header Data Directories).
+fn certificate_directory(first: View) -> Option<(u32, u32)> {
     let header = u64::from(first.u32_at(0x3c)?).saturating_add(24);
     let count_offset = match first.u16_at(header)? {
         0x10b => 92,
@@ -93,7 +93,19 @@ fn certificate_size(first: View) -> Option<u32> {
     if first.u32_at(count)? < 5 {
         return None;
     }
-    first.u32_at(count.saturating_add(4 + 4 * 8 + 4))
+    let directory = count.saturating_add(4 + 4 * 8);
+    Some((
+        first.u32_at(directory)?,
+        first.u32_at(directory.saturating_add(4))?,
+    ))
+}
+
+/// Whether the image with these first bytes has certificates: neither their file offset nor their size is 0.
+fn has_certificates(first: View) -> bool {
+    match certificate_directory(first) {
+        Some((offset, size)) => offset != 0 && size != 0,
+        None => false,
+    }
 }
 
 /// Reports what the new file lost from the old one, which has these first bytes: its CheckSum, unless that was asked for, and the
@@ -103,7 +115,7 @@ fn tell_changes(rt: &impl Eprint, new: NewFile, target: &[u8], first: View) {
     if !new.check_sum && check_sum(first) != Some(0) {
         let _ = eprintln!(rt; "petool: {target}: CheckSum is now 0");
     }
-    if certificate_size(first).unwrap_or(0) != 0 {
+    if has_certificates(first) {
         let _ = eprintln!(rt;
             "petool: {target}: the certificate is that of the old file and no longer fits"
         );
