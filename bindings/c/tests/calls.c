@@ -4,7 +4,7 @@
  */
 #include "check.h"
 
-static bytes v1, v2, v3, va, vb, vc, vr;
+static bytes v1, v2, v3, va, vb, vc, vr, vs;
 
 static int is_fault(petool_fault fault, unsigned number, unsigned place, uint64_t at)
 {
@@ -221,6 +221,14 @@ static void check_exports(void)
     CHECK(petool_export_names(vr.at, 64, rows, 6, &count, &fault) == PETOOL_FAULT);
     CHECK(count == 99);
     CHECK(petool_exports(v1.at, v1.len, rows, 6, &count, &fault) == PETOOL_OK && count == 0);
+
+    /* vb.dll: two, of which the second has a name */
+    petool_exports_init(rows, 6);
+    CHECK(petool_exports(vb.at, vb.len, rows, 6, &count, &fault) == PETOOL_OK && count == 2);
+    CHECK(is_row(&rows[0], 5, "", 0) && is_rva(rows[0].target, 0x1004));
+    CHECK(is_row(&rows[1], 7, "", 0) && is_rva(rows[1].target, 0x1010));
+    CHECK(petool_export_names(vb.at, vb.len, rows, 6, &count, &fault) == PETOOL_OK && count == 1);
+    CHECK(is_row(&rows[0], 7, "g", 1) && is_rva(rows[0].target, 0x1010));
 }
 
 static void check_searches(void)
@@ -273,6 +281,8 @@ static void check_imports(void)
     count = 99;
     CHECK(petool_imports(vr.at, vr.len, rows, 4, &count, &fault) == PETOOL_SMALL && count == 5 && is_untold(fault));
     CHECK(petool_imports(vr.at, 64, rows, 6, &count, &fault) == PETOOL_FAULT && count == 5);
+    CHECK(petool_imports(vc.at, vc.len, rows, 6, &count, &fault) == PETOOL_OK && count == 1);
+    CHECK(is_import(&rows[0], "A.DLL", 5, "f", 1, 0, 0x1030));
 }
 
 static void check_slots(void)
@@ -339,6 +349,11 @@ static void check_tables(void)
     petool_exports_init(exports, 5);
     CHECK(petool_tables(vr.at, vr.len, exports, 4, names, 5, imports, 5, fixups, 5, &counts, &fault) == PETOOL_SMALL);
     CHECK(is_row(&exports[3], 65538, "", 0) && is_row(&exports[4], 0, "", 0) && is_untold(fault));
+
+    /* vs.dll imports an ordinal of itself, and has no base relocation */
+    CHECK(petool_tables(vs.at, vs.len, exports, 5, names, 5, imports, 5, fixups, 5, &counts, &fault) == PETOOL_OK && is_untold(fault));
+    CHECK(counts.exports == 2 && counts.names == 1 && counts.imports == 1 && counts.fixups == 0);
+    CHECK(is_row(&names[0], 7, "g", 1) && is_rva(names[0].target, 0x1010) && is_import(&imports[0], "S.DLL", 5, "", 0, 7, 0x2030));
     counts.exports = 99;
     CHECK(petool_tables(vr.at, 64, exports, 5, names, 3, imports, 5, fixups, 4, &counts, &fault) == PETOOL_FAULT);
     CHECK(counts.exports == 99 && fault.number == 4);
@@ -551,6 +566,7 @@ int main(int argc, char **argv)
     vb = file_in(argv[1], "vb.dll");
     vc = file_in(argv[1], "vc.dll");
     vr = file_in(argv[1], "vr.dll");
+    vs = file_in(argv[1], "vs.dll");
     check_judging();
     check_headers();
     check_bytes();
@@ -566,6 +582,6 @@ int main(int argc, char **argv)
     check_names();
     check_cut();
     check_null();
-    free(v1.at), free(v2.at), free(v3.at), free(va.at), free(vb.at), free(vc.at), free(vr.at);
+    free(v1.at), free(v2.at), free(v3.at), free(va.at), free(vb.at), free(vc.at), free(vr.at), free(vs.at);
     return told();
 }

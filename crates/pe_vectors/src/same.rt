@@ -33,21 +33,6 @@ pub fn same_import(import: &Import, other: &Import) -> bool {
         && import.slot == other.slot
 }
 
-/// Whether two lists have the same exports by ordinal.
-pub fn same_ordinals(found: &[(u64, Target)], expected: &[(u64, Target)]) -> bool {
-    if found.len() != expected.len() {
-        return false;
-    }
-    for index in 0..found.len() {
-        let (ordinal, target) = &found[index];
-        let (other, expected) = &expected[index];
-        if *ordinal != *other || !same_target(target, expected) {
-            return false;
-        }
-    }
-    true
-}
-
 /// Whether two lists have the same exports by name.
 pub fn same_names(found: &[(&[u8], Target)], expected: &[(&[u8], Target)]) -> bool {
     if found.len() != expected.len() {

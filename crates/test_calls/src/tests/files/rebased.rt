@@ -5,15 +5,12 @@ use pe_text::{Outcome, Sink, ToolError, status};
 use pe_tool::rebase;
 use pe_vectors::files::{Vector, file_of};
 use pe_vectors::{StepReader, StepWriter};
-use pe_view::{Fault, Place};
 use pe_write::rebase_file;
 use std::alloc::{Allocator, Global};
 use std::process::Abort;
 
-/// The file for a base.
-fn rebased(rt: &impl Abort, alloc: Global, file: &[u8], base: u64) -> Vec<u8> {
-    rebase_file(alloc, file, base).expect(rt, "a file")
-}
+/// The base of the new files.
+const BASE: u64 = 0x2000_0000;
 
 /// How the devices of a run work: the most bytes per call, and the read, and the write of either output, that fails.
 #[derive(Clone, Copy)]
@@ -40,17 +37,15 @@ pub(super) struct Run {
     pub line: StepWriter,
 }
 
-/// Rebases a file with the memory of an allocator: V2, or V1 to a base that is not valid for it.
+/// Rebases V2 to this base with the memory of an allocator.
 pub(super) fn rebased_over<A: Allocator + Copy>(
     rt: &impl Abort,
     alloc: Global,
     memory: A,
-    vector: Vector,
-    base: u64,
     devices: Devices,
 ) -> Run {
     assert!(rt; devices.step > 0);
-    let file = file_of(alloc, vector).expect(rt, "memory");
+    let file = file_of(alloc, Vector::V2).expect(rt, "memory");
     let mut reader = StepReader::new(&file, devices.step, devices.failing_read);
     let mut out = StepWriter::new(alloc, 0x800, devices.step, devices.failing_out).expect(
         rt, "memory",
@@ -58,14 +53,14 @@ pub(super) fn rebased_over<A: Allocator + Copy>(
     let mut line = StepWriter::new(alloc, 0x100, devices.step, devices.failing_line).expect(
         rt, "memory",
     );
-    let answer = rebase(memory, &mut reader, base, &mut out, &mut line);
+    let answer = rebase(memory, &mut reader, BASE, &mut out, &mut line);
     Run { answer, out, line }
 }
 
-/// V2 at 0x20000000.
+/// V2 at this base.
 pub(super) fn rebased_v2(rt: &impl Abort, alloc: Global) -> Vec<u8> {
     let file = file_of(alloc, Vector::V2).expect(rt, "memory");
-    rebased(rt, alloc, &file, 0x2000_0000)
+    rebase_file(alloc, &file, BASE).expect(rt, "a file")
 }
 
 /// Whether a run has this result, and both outputs got these bytes.
@@ -78,14 +73,7 @@ fn a_rebased_file_goes_to_one_output_and_its_line_to_another(rt: HostRuntime) {
     let expected = rebased_v2(&rt, rt.alloc());
     for step in [1, 7, 0x1000] {
         let devices = Devices { step, ..FINE };
-        let run = rebased_over(
-            &rt,
-            rt.alloc(),
-            rt.alloc(),
-            Vector::V2,
-            0x2000_0000,
-            devices,
-        );
+        let run = rebased_over(&rt, rt.alloc(), rt.alloc(), devices);
         assert_holds(
             &rt,
             step,
@@ -93,23 +81,6 @@ fn a_rebased_file_goes_to_one_output_and_its_line_to_another(rt: HostRuntime) {
         );
         assert_holds(&rt, step, status(&run.answer) == 0);
     }
-}
-
-#[test]
-fn a_refused_file_leaves_the_output_as_it_is(rt: HostRuntime) {
-    let run = rebased_over(&rt, rt.alloc(), rt.alloc(), Vector::V1, 0x1000_8000, FINE);
-    let fault = Fault {
-        number: 44,
-        image: 0,
-        place: Place::Address(0x1000_8000),
-    };
-    let line = b"fault 44 image 0 address 0x0000000010008000\n";
-    assert_holds(
-        &rt,
-        0,
-        has_written(&run, Ok(Outcome::Refused(fault)), b"", line),
-    );
-    assert_holds(&rt, 0, status(&run.answer) == 1);
 }
 
 /// Devices with one failing call, the error, how many bytes of the file and which of its line were written, and the failures that
@@ -153,7 +124,7 @@ const FAILURES: &[Failure] = &[
 fn assert_failure(rt: &impl Abort, alloc: Global, case: usize, failure: &Failure, file: &[u8]) {
     let (devices, error, len, line, failures) = failure;
     let out = file.get(..*len).expect(rt, "bytes of the file");
-    let run = rebased_over(rt, alloc, alloc, Vector::V2, 0x2000_0000, *devices);
+    let run = rebased_over(rt, alloc, alloc, *devices);
     assert_holds(rt, case, has_written(&run, Err(*error), out, line));
     let found = (run.out.failures(), run.line.failures());
     assert_holds(rt, case, found == *failures);
@@ -221,7 +192,7 @@ fn is_told(
     device: Device,
     file: &[u8],
 ) -> Option<bool> {
-    let run = rebased_over(rt, alloc, alloc, Vector::V2, 0x2000_0000, devices);
+    let run = rebased_over(rt, alloc, alloc, devices);
     if run.answer == Ok(Outcome::Done) {
         return None;
     }

@@ -11,20 +11,16 @@ use crate::tests::asserts::assert_holds;
 use bumpalo::Bump;
 use coff_object::{Object, ObjectError, ObjectFile, Symbol, read_object, write_object};
 use pe_image::read_image;
-use pe_layout::Layout;
 use pe_set::{Binding, Module, judge};
 use pe_space::{Command, MapError, Policy, SetEntry, Space, map, open_space, run};
-use pe_tables::{
-    Fixup, FixupKind, Import, Key, TableError, Target, ascending, encode_fixups, read_exports,
-    read_fixups, read_imports,
-};
+use pe_tables::{Fixup, FixupKind, Import, Key, TableError, Target, ascending, encode_fixups};
 use pe_text::{Outcome, ToolError, read_whole};
 use pe_vectors::StepReader;
 use pe_vectors::files::{Vector, file_of};
 use pe_vectors::members::{A, B, C, files_of, names_of, repeated, set_of};
 use pe_vectors::objects::O1;
-use pe_vectors::same::{same_imports, same_names, same_ordinals};
-use pe_view::{Fault, Place, View};
+use pe_vectors::same::{same_imports, same_names};
+use pe_view::{Fault, Place};
 use pe_write::{WriteError, rebase_file, write_image};
 use std::alloc::Global;
 use std::process::Abort;
@@ -49,19 +45,12 @@ fn right_if(is_right: bool) -> Answer {
 /// A call that allocates from an arena.
 #[derive(Clone, Copy)]
 enum Call {
-    Exports,
-    Imports,
-    Fixups,
     Encoding,
-    Image,
     Judge,
-    Map,
-    Opening,
     Run,
     ReadObject,
     WriteObject,
     WriteImage,
-    RebaseFile,
     ReadWhole,
     Check,
     Dump,
@@ -73,75 +62,12 @@ enum Call {
     At,
 }
 
-/// The exports of VB by ordinal, and by name.
-const ORDINALS: &[(u64, Target)] = &[(5, Target::Rva(0x1004)), (7, Target::Rva(0x1010))];
-
-const NAMES: &[(&[u8], Target)] = &[(b"g", Target::Rva(0x1010))];
-
-/// The result of a call that returned an error of tables.
-fn of_tables(error: TableError) -> Answer {
-    match error {
-        TableError::Memory => Answer::Memory,
-        _ => Answer::Wrong,
-    }
-}
-
-fn exports(layout: &Layout, arena: &Bump) -> Answer {
-    match read_exports(arena, layout) {
-        Ok(found) => {
-            right_if(same_ordinals(found.ordinals(), ORDINALS) && same_names(found.names(), NAMES))
-        }
-        Err(TableError::Memory) => Answer::Memory,
-        Err(_) => Answer::Wrong,
-    }
-}
-
-/// The imports of VC.
-const IMPORTS: &[Import] = &[Import {
-    module: b"A.DLL",
-    key: Key::Name(b"f"),
-    slot: 0x1030,
-}];
-
-fn imports(layout: &Layout, arena: &Bump) -> Answer {
-    match read_imports(arena, layout) {
-        Ok(found) => right_if(same_imports(&found, IMPORTS)),
-        Err(error) => of_tables(error),
-    }
-}
-
 /// The fixup of V2.
 const FIXUPS: &[Fixup] = &[Fixup {
     entry: 0x2008,
     field: 0x1008,
     kind: FixupKind::Bits32,
 }];
-
-fn fixups(layout: &Layout, arena: &Bump) -> Answer {
-    match read_fixups(arena, layout, &[]) {
-        Ok(found) => right_if(*found.as_slice() == *FIXUPS),
-        Err(TableError::Memory) => Answer::Memory,
-        Err(_) => Answer::Wrong,
-    }
-}
-
-/// Reads a table of a file, with the memory of an arena.
-fn table(rt: &impl Abort, alloc: Global, arena: &Bump, call: Call) -> Answer {
-    let vector = match call {
-        Call::Exports => Vector::Vb,
-        Call::Imports => Vector::Vc,
-        _ => Vector::V2,
-    };
-    let file = file_of(alloc, vector).expect(rt, "memory");
-    let Ok(layout) = Layout::new(View::new(&file), 0) else {
-        return Answer::Wrong;
-    };
-    match call {
-        Call::Exports => exports(&layout, arena),
-        Call::Imports => imports(&layout, arena),
-        _ => fixups(&layout, arena),
-    }
-}
 
 /// The encoded table of V2's fixup is that of its file, at 0x400.
 fn encoding(rt: &impl Abort, alloc: Global, arena: &Bump) -> Answer {
@@ -153,27 +79,15 @@ fn encoding(rt: &impl Abort, alloc: Global, arena: &Bump) -> Answer {
     }
 }
 
-/// The imports of VS.
-const OWN_IMPORTS: &[Import] = &[Import {
-    module: b"S.DLL",
-    key: Key::Ordinal(7),
-    slot: 0x2030,
-}];
+/// The exports of VB by name.
+const NAMES: &[(&[u8], Target)] = &[(b"g", Target::Rva(0x1010))];
 
-fn image(rt: &impl Abort, alloc: Global, arena: &Bump) -> Answer {
-    let file = file_of(alloc, Vector::Vs).expect(rt, "memory");
-    match read_image(arena, &file, 7) {
-        Ok(found) => {
-            right_if(
-                same_names(found.exports.names(), NAMES)
-                    && same_imports(&found.imports, OWN_IMPORTS)
-                    && found.fixups.is_empty(),
-            )
-        }
-        Err(TableError::Memory) => Answer::Memory,
-        Err(_) => Answer::Wrong,
-    }
-}
+/// The imports of VC.
+const IMPORTS: &[Import] = &[Import {
+    module: b"A.DLL",
+    key: Key::Name(b"f"),
+    slot: 0x1030,
+}];
 
 /// The base of an image, its exports by name, and its imports.
 type Seen<'a> = (u64, &'a [(&'a [u8], Target<'a>)], &'a [Import<'a>]);
@@ -229,6 +143,17 @@ const BINDINGS: &[Binding] = &[Binding {
     rva: 0x1010,
 }];
 
+/// The bindings of an accepted set, and each module's base, exports and imports.
+fn judging(arena: &Bump, set: &[SetEntry]) -> Answer {
+    match judge(arena, set, Policy::Strict) {
+        Ok(found) => {
+            right_if(*found.bindings.as_slice() == *BINDINGS && are_modules(&found.modules))
+        }
+        Err(MapError::Memory) => Answer::Memory,
+        Err(_) => Answer::Wrong,
+    }
+}
+
 /// The first 0x3000 bytes at a base in a space.
 fn bytes_of<S: Space>(rt: &impl Abort, space: &S, base: u64) -> [u8; 0x3000] {
     let mut bytes = [0; 0x3000];
@@ -250,39 +175,6 @@ fn same_space<S: Space, T: Space>(rt: &impl Abort, space: &S, other: &T) -> bool
         }
     }
     *space.bindings() == *other.bindings()
-}
-
-/// Whether a space is that of the set with enough memory.
-fn is_space_of<S: Space>(rt: &impl Abort, alloc: Global, set: &[SetEntry], space: &S) -> bool {
-    let expected = map(alloc, set, Policy::Strict).expect(rt, "a space");
-    same_space(rt, space, &expected)
-}
-
-/// The bindings of an accepted set, and each module's base, exports and imports.
-fn judging(arena: &Bump, set: &[SetEntry]) -> Answer {
-    match judge(arena, set, Policy::Strict) {
-        Ok(found) => {
-            right_if(*found.bindings.as_slice() == *BINDINGS && are_modules(&found.modules))
-        }
-        Err(MapError::Memory) => Answer::Memory,
-        Err(_) => Answer::Wrong,
-    }
-}
-
-fn mapping(rt: &impl Abort, alloc: Global, arena: &Bump, set: &[SetEntry]) -> Answer {
-    match map(arena, set, Policy::Strict) {
-        Ok(space) => right_if(is_space_of(rt, alloc, set, &space)),
-        Err(MapError::Memory) => Answer::Memory,
-        Err(_) => Answer::Wrong,
-    }
-}
-
-fn opening<'a>(rt: &impl Abort, alloc: Global, arena: &Bump, set: &'a [SetEntry<'a>]) -> Answer {
-    match open_space(arena, set, Policy::Strict) {
-        Ok(space) => right_if(is_space_of(rt, alloc, set, &space)),
-        Err(MapError::Memory) => Answer::Memory,
-        Err(_) => Answer::Wrong,
-    }
 }
 
 /// A window, a move of `b.dll`, and a window of the slot that follows it.
@@ -387,8 +279,6 @@ fn set_answer<'a>(
 ) -> Answer {
     match call {
         Call::Judge => judging(arena, set),
-        Call::Map => mapping(rt, alloc, arena, set),
-        Call::Opening => opening(rt, alloc, arena, set),
         Call::Run => running(rt, alloc, arena, set),
         _ => reporting(rt, alloc, arena, set),
     }
@@ -418,16 +308,6 @@ fn planning(rt: &impl Abort, alloc: Global, arena: &Bump) -> Answer {
     let plan = plan_of(rt, alloc, &V2, &file);
     match write_image(arena, &plan) {
         Ok(bytes) => right_if(*bytes.as_slice() == *file.as_slice()),
-        Err(WriteError::Memory) => Answer::Memory,
-        Err(_) => Answer::Wrong,
-    }
-}
-
-fn rebasing(rt: &impl Abort, alloc: Global, arena: &Bump) -> Answer {
-    let file = file_of(alloc, Vector::V2).expect(rt, "memory");
-    let expected = rebase_file(alloc, &file, 0x2000_0000).expect(rt, "a file");
-    match rebase_file(arena, &file, 0x2000_0000) {
-        Ok(bytes) => right_if(*bytes.as_slice() == *expected.as_slice()),
         Err(WriteError::Memory) => Answer::Memory,
         Err(_) => Answer::Wrong,
     }
@@ -487,7 +367,7 @@ fn on_vr(rt: &impl Abort, alloc: Global, arena: &Bump, of: Engine) -> Answer {
 fn rebase_engine(rt: &impl Abort, alloc: Global, arena: &Bump) -> Answer {
     let expected = rebased_v2(rt, alloc);
     let devices = super::rebased::Devices { step: 64, ..FINE };
-    let run = rebased_over(rt, alloc, arena, Vector::V2, 0x2000_0000, devices);
+    let run = rebased_over(rt, alloc, arena, devices);
     let answer = of_engine(run.answer, run.out.taken(), &expected);
     let is_silent = run.line.taken().is_empty();
     match answer {
@@ -499,16 +379,11 @@ fn rebase_engine(rt: &impl Abort, alloc: Global, arena: &Bump) -> Answer {
 /// Runs a call with the memory of an arena.
 fn answer_of(rt: &impl Abort, alloc: Global, arena: &Bump, call: Call) -> Answer {
     match call {
-        Call::Exports | Call::Imports | Call::Fixups => table(rt, alloc, arena, call),
         Call::Encoding => encoding(rt, alloc, arena),
-        Call::Image => image(rt, alloc, arena),
-        Call::Judge | Call::Map | Call::Opening | Call::Run | Call::MapReport => {
-            on_set(rt, alloc, arena, call)
-        }
+        Call::Judge | Call::Run | Call::MapReport => on_set(rt, alloc, arena, call),
         Call::ReadObject => reading(rt, alloc, arena),
         Call::WriteObject => writing(rt, alloc, arena),
         Call::WriteImage => planning(rt, alloc, arena),
-        Call::RebaseFile => rebasing(rt, alloc, arena),
         Call::ReadWhole => whole(rt, alloc, arena),
         Call::Check => on_vr(rt, alloc, arena, Engine::Check),
         Call::Dump => on_vr(rt, alloc, arena, Engine::Dump),
@@ -566,43 +441,13 @@ fn places_want_memory(rt: HostRuntime) {
 }
 
 #[test]
-fn exports_want_memory(rt: HostRuntime) {
-    assert_wants_memory(&rt, rt.alloc(), Call::Exports);
-}
-
-#[test]
-fn imports_want_memory(rt: HostRuntime) {
-    assert_wants_memory(&rt, rt.alloc(), Call::Imports);
-}
-
-#[test]
-fn fixups_want_memory(rt: HostRuntime) {
-    assert_wants_memory(&rt, rt.alloc(), Call::Fixups);
-}
-
-#[test]
 fn an_encoding_wants_memory(rt: HostRuntime) {
     assert_wants_memory(&rt, rt.alloc(), Call::Encoding);
 }
 
 #[test]
-fn an_image_wants_memory(rt: HostRuntime) {
-    assert_wants_memory(&rt, rt.alloc(), Call::Image);
-}
-
-#[test]
 fn a_judgement_wants_memory(rt: HostRuntime) {
     assert_wants_memory(&rt, rt.alloc(), Call::Judge);
-}
-
-#[test]
-fn a_space_wants_memory(rt: HostRuntime) {
-    assert_wants_memory(&rt, rt.alloc(), Call::Map);
-}
-
-#[test]
-fn a_space_over_files_wants_memory(rt: HostRuntime) {
-    assert_wants_memory(&rt, rt.alloc(), Call::Opening);
 }
 
 #[test]
@@ -623,11 +468,6 @@ fn a_written_object_wants_memory(rt: HostRuntime) {
 #[test]
 fn a_written_image_wants_memory(rt: HostRuntime) {
     assert_wants_memory(&rt, rt.alloc(), Call::WriteImage);
-}
-
-#[test]
-fn a_rebased_file_wants_memory(rt: HostRuntime) {
-    assert_wants_memory(&rt, rt.alloc(), Call::RebaseFile);
 }
 
 #[test]
