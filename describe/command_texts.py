@@ -13,7 +13,7 @@ from commands import Commands, Item
 SOURCE = "describe/commands.txt"
 README, GUIDE, MAN = "README.md", "docs/GUIDE.md", "man/petool.1"
 WORDS = "crates/pe_words/src"
-STATUSES = "crates/pe_program/src/statuses.rt"
+STATUSES = "crates/petool/src/statuses.rt"
 #: The longest row that `rt fmt` puts on one line.
 ONE_LINE = 60
 #: The source that has the purpose of each command for help, and what comes before the string.

@@ -56,7 +56,7 @@ TABLES: Dict[str, List[Table]] = {
         ("RULES", "(u16, &str, &str)", _rules, FAULTS),
         ("FINDING_RULES", "(u16, &str, &str)", _rules, FINDINGS),
     ],
-    "crates/pe_program/src/explain.rt": [
+    "crates/petool/src/explain.rt": [
         ("EXPLAINED", "Explained", _explained, FAULTS),
         ("FINDINGS_EXPLAINED", "Explained", _explained, FINDINGS),
     ],

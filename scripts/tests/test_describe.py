@@ -12,7 +12,7 @@ CRATES = ("pe_records_c", "c_tables", "pe_handle", "pe_opened", "petool_c", "pe_
 #: The crates that test faults or have a table of them.
 FAULT_CRATES = (
     "pe_text",
-    "pe_program",
+    "petool",
     "pe_head",
     "pe_layout",
     "pe_tables",
@@ -254,7 +254,7 @@ DESCRIBED = [
 ]
 #: Changes of the faults: also a fault that is left out, and one more.
 RULES = "crates/pe_text/src/fault_text.rt"
-EXPLAINED = "crates/pe_program/src/explain.rt"
+EXPLAINED = "crates/petool/src/explain.rt"
 FAULTS = "docs/FAULTS.md"
 FAULTS_WRITTEN = [
     (RULES, "the file is larger than 2^32 bytes", "the file has over 2^31 bytes"),
@@ -346,7 +346,7 @@ COMMANDS_WRITTEN = [
     ("crates/pe_bench/src/texts.rt", "    symbols: true,\n", ""),
 ]
 COMMANDS_COMPARED = [
-    ("crates/pe_program/src/statuses.rt", "CUT: u8 = 5", "CUT: u8 = 6"),
+    ("crates/petool/src/statuses.rt", "CUT: u8 = 5", "CUT: u8 = 6"),
     (FILE_WORDS, "const SHOW_OPTIONS", "const OPTIONS"),
     (FILE_WORDS, 'name: "json",', 'name: "lines",'),
     ("README.md", "<!-- from describe/commands.txt: statuses -->\n", ""),
@@ -354,7 +354,7 @@ COMMANDS_COMPARED = [
 ]
 COMMANDS_DESCRIBED = [
     ("  means      done", "  means      finished", "README.md"),
-    ("status 5 CUT", "status 7 CUT", "crates/pe_program/src/statuses.rt"),
+    ("status 5 CUT", "status 7 CUT", "crates/petool/src/statuses.rt"),
     ("option symbols\n", "option symbols\n  column     Symbols\n", "line "),
     ("  readme     what fault N means\n", "", "command explain [N] has no row readme"),
     ("command object FILE", "command objects FILE", "crates/pe_words/src/file_words.rt"),

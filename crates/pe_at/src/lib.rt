@@ -1,7 +1,9 @@
 //! What is at a place of an image or an object: the page of `petool at`.
 //!
 //! [`at`] and [`at_sized`] write what is at a place, [`at_each`] and [`at_each_sized`] what is at each of several places, and
-//! [`at_each_text`] does for a file that was read. Of an [`AtImage`] at another base [`write_place`] writes the same. The outcome is specified by contract; the text is in no contract.
+//! [`at_each_text`] does for a file that was read. [`at_map`] maps a set, and writes what is at each address of it: the image and what
+//! its file says of the place, what the slot there is bound to, and the bytes as they stand in the space. The outcome is specified by
+//! contract; the text is in no contract.
 #![tactic(auto)]
 
 mod at_engine;
@@ -12,6 +14,9 @@ mod at_place;
 mod file_places;
 mod header_places;
 mod leaf_place;
+mod map_engine;
+mod mapped_images;
+mod mapped_place;
 mod no_place;
 mod object_places;
 mod placed_symbols;
@@ -21,7 +26,6 @@ mod spot;
 mod table_places;
 
 pub use at_engine::{at, at_each, at_each_sized, at_each_text, at_sized};
-pub use at_image::AtImage;
-pub use at_place::write_place;
+pub use map_engine::at_map;
 pub use placed_symbols::PlacedSymbol;
 pub use spot::Spot;

@@ -1,7 +1,0 @@
-use Rattle.std.proofs.Common.{◌≡◌}
-use Rattle.pe_program.proofs.kept.read_past.Given as goal
-
-abbrev pub invariant-loop : goal.invariant-loop
-invariant-loop g l = record {
-  count : g.R.Source.failures l.reader ≡ g.R.Source.failures l.initial.reader;
-}

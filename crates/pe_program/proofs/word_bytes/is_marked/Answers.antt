@@ -1,6 +1,0 @@
-use Rattle.std.proofs.Common.{ℕ, ◌==◌, refl, rules}
-use Rattle.pe_program.proofs.WordBytes.{no_mark}
-use Rattle.pe_program.proofs.word_bytes.is_marked.Goals as goal
-
-pub returns-clause-plain : goal.returns-clause-plain
-returns-clause-plain c none = no_mark (λ (byte : ℕ). byte == 0) refl c.args.word.now (search rules)
