@@ -31,7 +31,6 @@ static void check_judging(void)
     CHECK(count == 1 && is_bound(rows[0]) && rows[1].slot == 0 && cycle == 77 && fault.number == 0);
     CHECK(petool_judge(abc, 3, false, rows, 0, &count, &cycle, &fault) == PETOOL_SMALL && count == 1);
     CHECK(petool_judge(abc + 1, 2, true, rows, 2, &count, &cycle, &fault) == PETOOL_OK && count == 0 && fault.number == 0);
-    count = 99;
 
     /* without a.dll: a fault, or a slot that is left unchanged */
     wrong[0] = abc[1];
