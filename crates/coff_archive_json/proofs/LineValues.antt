@@ -159,11 +159,11 @@ archive_is_line archive file thin fault =
 
 -- ---- all lines
 one_line : (t : List ℕ) → IsJsonLine t → AreJsonLines t
-one_line t h = (h.0 ∷ [], h.1.0 ∙ sym (append-nil (h.0 ++ codes "\n")), All-cons IsObjectText h.0 [] h.1.1 (All-nil IsObjectText))
+one_line t h = (h.0 ∷ [], h.1 ∙ sym (append-nil (h.0 ++ codes "\n")), All-cons IsObjectText h.0 [] h.2 (All-nil IsObjectText))
 
 lines_then : (t u : List ℕ) → AreJsonLines t → AreJsonLines u → AreJsonLines (t ++ u)
 lines_then t u h k =
-    (h.0 ++ k.0, ap₂ (λ (xs ys : List ℕ). xs ++ ys) h.1.0 k.1.0 ∙ sym (flat_map-append (λ (text : List ℕ). text ++ codes "\n") h.0 k.0), All-append IsObjectText h.0 k.0 h.1.1 k.1.1)
+    (h.0 ++ k.0, ap₂ (λ (xs ys : List ℕ). xs ++ ys) h.1 k.1 ∙ sym (flat_map-append (λ (text : List ℕ). text ++ codes "\n") h.0 k.0), All-append IsObjectText h.0 k.0 h.2 k.2)
 
 row_lines : {Row : Type 0} (row : Row → List ℕ) (rows : List Row) → ((r : Row) → IsJsonLine (row r)) → AreJsonLines (flat_map row rows)
 row_lines row [] each = ([], refl, All-nil IsObjectText)
