@@ -50,7 +50,7 @@ NAMED = [
     (PROVED, "`outcome.rt`", "`outcomes.rt`", f"{PROVED}: there is no test outcomes.rt"),
     (PROVED, "`test_headers.py`", "`test_header.py`", f"{PROVED}: there is no test test_header.py"),
     (PROVED, "`bindings/c/tests/memory.c`", "`bindings/c/tests/room.c`", f"{PROVED}: there is no test bindings/c/tests/room.c"),
-    (TESTS, "`refusals.rt` | `rt ci`", "`refusal.rt` | `rt ci`", f"{TESTS}: there is no test refusal.rt"),
+    (TESTS, "names | `refusals.rt`;", "names | `refusal.rt`;", f"{TESTS}: there is no test refusal.rt"),
     (TESTS, "`bindings/rust` |", "`bindings/rusts` |", f"{TESTS}: there is no test bindings/rusts"),
 ]
 COMMAND = [
