@@ -6,7 +6,7 @@ crate is proved in a copy of the sources in FOLDER/copies. The copy gets, as har
 so `rt` starts at the crate's own functions. The results go into the checkout's crates/*/out, where later runs of `rt` find them.
 
 A crate whose sources and kit are those of its last proof is not proved again. Its results are also kept in FOLDER/kept, under the
-sum of these, and copied to any other checkout with the same sources and kit. The results used last are kept, up to 6 GB, and none
+sum of these, and copied to any other checkout with the same sources and kit. The results used last are kept, up to 10 GB, and none
 are added if less than 5 GB are free. After a run that was stopped, the next one continues, also with the crates that were not
 finished. A second run in the same checkout, or with the same FOLDER, waits for the first. FOLDER is ~/.cache/petool if none is
 given, or petool-build-UID among temporary files if that cannot be made; only the user may write there, since its contents count as
@@ -51,7 +51,7 @@ SECONDS, SECONDS_A_LINE = 15, 0.15
 # bytes of memory that must be free before another proof begins while others run
 MEMORY_OF_A_PROOF = 3 << 30
 # the bytes of disk that kept results may take, and those that must be free before more is kept
-KEPT_BYTES, FREE_BYTES = 6 << 30, 5 << 30
+KEPT_BYTES, FREE_BYTES = 10 << 30, 5 << 30
 
 
 class Crate:

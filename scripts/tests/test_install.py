@@ -47,7 +47,7 @@ petool_c) ar rc out/libpetool_c.a ;;
 esac
 """
 #: The bytes of disk that prove.py leaves free, and those of a copy that keeps results on any disk.
-FREE, NO_FREE = "KEPT_BYTES, FREE_BYTES = 6 << 30, 5 << 30", "KEPT_BYTES, FREE_BYTES = 6 << 30, 0"
+FREE, NO_FREE = "KEPT_BYTES, FREE_BYTES = 10 << 30, 5 << 30", "KEPT_BYTES, FREE_BYTES = 10 << 30, 0"
 NO_KIT = "#!/bin/sh\necho 'no rt is needed' >&2\nexit 1\n"
 
 

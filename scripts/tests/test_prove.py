@@ -40,7 +40,7 @@ CP = """#!/bin/sh
 case $* in */kept/*) echo 'cp: No space left on device' >&2; exit 1 ;; esac
 exec /bin/cp "$@"
 """
-LIMITS = "KEPT_BYTES, FREE_BYTES = 6 << 30, 5 << 30"
+LIMITS = "KEPT_BYTES, FREE_BYTES = 10 << 30, 5 << 30"
 
 
 class TestProve(unittest.TestCase):
@@ -57,7 +57,7 @@ class TestProve(unittest.TestCase):
         (self.top / "scripts").mkdir()
         shutil.copy(PROVE, self.top / "scripts")
         # whatever free space the disk of this machine has
-        self.limit(6 << 30, 0)
+        self.limit(10 << 30, 0)
         self.kit.mkdir()
         (self.kit / "version").write_text("kit")
         (self.kit / "stamps").write_text("")
@@ -276,7 +276,7 @@ class TestProve(unittest.TestCase):
         self.assertEqual(self.prove("high")[2], [])
 
     def test_nothing_is_kept_on_a_disk_that_is_almost_full(self):
-        self.limit(6 << 30, 1 << 62)
+        self.limit(10 << 30, 1 << 62)
         self.prove("low")
         self.clone("clone")
         self.assertEqual(self.prove("low")[2], ["low"])
