@@ -114,9 +114,7 @@ class ShownCosts(Grows):
                 self.grows(5, lambda size: self.cost(["show", "--all", "--most", "64K"], kind(size)))
 
     def test_a_line_ends_at_its_cut(self):
-        for kind in (resource_names, unwind_operations):
-            with self.subTest(kind.__name__):
-                self.grows(5, lambda size: self.cost(["json", "--all", "--no-digest", "--most", "8K"], kind(size)))
+        self.grows(5, lambda size: self.cost(["json", "--all", "--no-digest", "--most", "8K"], resource_names(size)))
 
     def test_a_list_of_resources_ends_at_its_cut(self):
         self.grows(5, lambda size: self.cost(["resource", "--most", "64K"], resource_names(size)))

@@ -301,8 +301,9 @@ class Program(Cases):
         if "it is an image" in (image, other) or "it is a COFF object" in (image, other):
             self.assertEqual(sorted((image, other))[1], "nothing")
             return sorted((image, other))[0]
-        self.assertEqual(image, other)
-        return image
+        # `object` also says what reads a big object
+        self.assertEqual(image, other + (", which --big reads" if other == "it is a /bigobj object" else ""))
+        return other
 
     def test_what_first_bytes_show(self):
         self.each("kind", self.kind)

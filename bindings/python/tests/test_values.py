@@ -308,7 +308,9 @@ class Program(unittest.TestCase):
                     self.assertEqual(row.partition("; ")[2], clause or "")
                 self.assertEqual(self.told("check").rstrip("\n").partition("; ")[2], clause or "")
                 if first[:2] != b"MZ":
-                    self.assertEqual(self.told("object").rstrip("\n").partition("; ")[2], clause or "")
+                    # `object` says what reads a big object
+                    read = ", which --big reads" if name == "/bigobj object" else ""
+                    self.assertEqual(self.told("object").rstrip("\n").partition("; ")[2], (clause or "") + read)
 
 
 if __name__ == "__main__":
