@@ -252,6 +252,15 @@ class Reading(unittest.TestCase):
                 with self.subTest(path=path, command=command):
                     self.assertEqual(self.run_over(words_of(command, path), subprocess.DEVNULL, **limited)[0], wanted)
 
+    def test_a_stack_of_384_kilobytes_suffices(self):
+        limited = {"preexec_fn": lambda: resource.setrlimit(resource.RLIMIT_STACK, (384 << 10, 384 << 10))}
+        self.path.write_bytes(LATE)
+        path = str(self.path)
+        for words in (*(words_of(command, path) for command in COMMANDS), ["show", "--all", path], ["json", "--all", path]):
+            with self.subTest(words):
+                wanted = self.run_over(words, subprocess.DEVNULL)
+                self.assertEqual(self.run_over(words, subprocess.DEVNULL, **limited), wanted)
+
     @contextlib.contextmanager
     def while_another(self, changes, pause):
         """Lets another thread change the file by `changes`, again and again, with a pause in seconds between two calls."""
